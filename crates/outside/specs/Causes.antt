@@ -1,5 +1,5 @@
 -- Counts of faults, and what the outside takes.
-use Rattle.std.specs.Prelude.{◌≡◌, ℕ, ◌+◌, ◌-◌, ◌^◌, ◌<◌, ◌≤◌, min, List, length, Result, OnErr, IfOk}
+use Rattle.std.specs.Prelude.{ℕ, ◌+◌, ◌-◌, ◌^◌, ◌<◌, ◌≤◌, min, List, length, Result, OnErr, IfOk}
 
 -- A count rose, or stands at its last value.
 abbrev pub Rose : ℕ → ℕ → Type 0
