@@ -13,3 +13,7 @@ pub record HasCause {T E : Type 0} (before now : ℕ) (result : Result T E) : Ty
 -- Of bytes at least one is taken.
 abbrev pub TakesSome : {E : Type 0} → Result ℕ E → List ℕ → Type 0
 TakesSome result bytes = IfOk result (λ n. 0 < length bytes → 0 < n)
+
+-- the number of the next call, counted from 1; the last number stays
+abbrev pub next_call : ℕ → ℕ
+next_call calls = min (calls + 1) (2 ^ 64 - 1)
