@@ -53,20 +53,19 @@ impl PlainReplica {
     {
         match self.cells.get(&id) {
             Some(Cell::Held(held)) => {
-                if is_same(held, &blob) {
+                return if is_same(held, &blob) {
                     Reply::There
                 } else {
                     Reply::Clash
-                }
+                };
             }
-            Some(Cell::Gone) => Reply::Gone,
-            Some(Cell::Absent) | None => {
-                if self.set(id, Cell::Held(blob)) {
-                    Reply::Stored
-                } else {
-                    Reply::Memory
-                }
-            }
+            Some(Cell::Gone) => return Reply::Gone,
+            Some(Cell::Absent) | None => {}
+        }
+        if self.set(id, Cell::Held(blob)) {
+            Reply::Stored
+        } else {
+            Reply::Memory
         }
     }
 
