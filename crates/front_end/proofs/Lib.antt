@@ -1,0 +1,16 @@
+pub mod PastLemmas
+pub mod StepLemmas
+pub mod KeptLemmas
+pub mod TimeLemmas
+pub mod SessionLemmas
+pub mod CarryLemmas
+pub mod KeepLemmas
+pub mod LineStepLemmas
+pub mod TagLemmas
+pub mod SpellingLemmas
+pub mod PieceLemmas
+pub mod LineLemmas
+pub mod WriteLemmas
+pub mod RunLemmas
+pub mod EndLemmas
+pub mod WordLemmas

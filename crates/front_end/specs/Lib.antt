@@ -1,0 +1,13 @@
+pub mod History
+pub mod Tags
+pub mod Script
+pub mod Spelling
+pub mod Pieces
+pub mod Transcript
+pub mod Past
+pub mod Outline
+pub mod Kept
+pub mod Session
+pub mod Lines
+pub mod Run
+pub mod Running

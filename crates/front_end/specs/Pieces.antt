@@ -1,0 +1,17 @@
+-- The pieces that lines are made of.
+use Rattle.std.specs.Prelude.{◌≡◌, ℕ, List, length, take}
+use Rattle.std.specs.Fmt.{decimal}
+use Rattle.hex.specs.Hex.{encode_lower}
+use Rattle.front_end.specs.declared.transcript.Piece.{Piece}
+use Rattle.front_end.specs.declared.transcript.Piece.TheVariants.{Text, Number, Sized, Id}
+use Rattle.front_end.specs.Transcript.{sized_bytes}
+
+abbrev pub piece_text : Piece → List ℕ
+piece_text (Text bytes) = bytes.now
+piece_text (Number number) = decimal number
+piece_text (Sized bytes) = sized_bytes bytes.now
+piece_text (Id id) = encode_lower id
+
+-- the new text begins with the old one
+abbrev pub BeginsWith : List ℕ → List ℕ → Type 0
+BeginsWith old new = take (length old) new ≡ old

@@ -1,0 +1,216 @@
+//! The lines of a transcript.
+
+ghost use Rattle.std.specs.Prelude.{◌≡◌, ◌<◌, ◌++◌, ◌∷◌, [], length, take, codes, flat_map, slice_index, OnOk, OnErr};
+ghost use Rattle.std.specs.Fmt.{decimal};
+ghost use Rattle.hex.specs.Hex.{encode_lower, lower_digits};
+ghost use Rattle.front_end.specs.Transcript.{spelled_bytes, sized_bytes, outcome_words, entry_line, bad_line};
+ghost use Rattle.front_end.specs.Pieces.{piece_text, BeginsWith};
+
+use crate::history::{Entry, HistoryMark, Outcome};
+use crate::tags::Tags;
+use blob_id::{BlobId, Memory};
+use itoa::Buffer;
+
+/// A piece of a line.
+#[derive(Clone, Copy)]
+enum Piece<'a> {
+    Text(&'a [u8]),
+    /// A number, in decimal.
+    Number(u64),
+    /// How many bytes, and the bytes: two digits each, or `-` for none.
+    Sized(&'a [u8]),
+    /// The 40 digits of an id.
+    Id(BlobId),
+}
+
+/// Adds the words that say how an operation ended. A refusal leaves `out` as it is.
+pub fn write_outcome(out: &mut Vec<u8>, outcome: &Outcome) -> Result<(), Memory>
+    ensures ok { OnOk result (out.new.items ≡ out.old.items ++ outcome_words outcome.now) }
+    ensures err { OnErr result (out.new.items ≡ out.old.items) }
+{
+    let (text, more) = outcome_pieces(outcome);
+    write_pieces(out, &[Piece::Text(text), more])
+}
+
+/// Adds the line of an entry, and nothing for a wait. A refusal leaves `out` as it is.
+#[tactic(auto, unfolding(crate::specs::Transcript::entry_line))]
+pub fn write_entry(out: &mut Vec<u8>, tags: &Tags, entry: &Entry) -> Result<(), Memory>
+    ensures ok { OnOk result (out.new.items ≡ out.old.items ++ entry_line tags.now entry.now) }
+    ensures err { OnErr result (out.new.items ≡ out.old.items) }
+{
+    match entry {
+        Entry::Mark(HistoryMark::Begin(number, _)) => write_begun(out, tags.name_of(*number)),
+        Entry::Mark(HistoryMark::Drew(number, id)) => write_drew(out, tags.name_of(*number), *id),
+        Entry::Mark(HistoryMark::End(number, outcome)) => {
+            write_end(out, tags.name_of(*number), outcome)
+        }
+        Entry::Mark(HistoryMark::Wait(_)) => Ok(()),
+        Entry::Bad(line) => write_bad(out, *line),
+    }
+}
+
+fn write_begun(out: &mut Vec<u8>, tag: &[u8]) -> Result<(), Memory>
+    ensures ok { OnOk result (out.new.items ≡ out.old.items ++ (tag.now ++ codes " begun" ++ 10 ∷ [])) }
+    ensures err { OnErr result (out.new.items ≡ out.old.items) }
+{
+    write_pieces(out, &[Piece::Text(tag), Piece::Text(b" begun\n")])
+}
+
+fn write_drew(out: &mut Vec<u8>, tag: &[u8], id: BlobId) -> Result<(), Memory>
+    ensures ok { OnOk result (out.new.items ≡ out.old.items ++ (tag.now ++ codes " drew " ++ encode_lower id ++ 10 ∷ [])) }
+    ensures err { OnErr result (out.new.items ≡ out.old.items) }
+{
+    write_pieces(
+        out,
+        &[
+            Piece::Text(tag),
+            Piece::Text(b" drew "),
+            Piece::Id(id),
+            Piece::Text(b"\n"),
+        ],
+    )
+}
+
+fn write_end<'a>(out: &mut Vec<u8>, tag: &'a [u8], outcome: &'a Outcome) -> Result<(), Memory>
+    ensures ok { OnOk result (out.new.items ≡ out.old.items ++ (tag.now ++ codes " " ++ outcome_words outcome.now ++ 10 ∷ [])) }
+    ensures err { OnErr result (out.new.items ≡ out.old.items) }
+{
+    let (text, more) = outcome_pieces(outcome);
+    write_pieces(
+        out,
+        &[
+            Piece::Text(tag),
+            Piece::Text(b" "),
+            Piece::Text(text),
+            more,
+            Piece::Text(b"\n"),
+        ],
+    )
+}
+
+fn write_bad(out: &mut Vec<u8>, line: u32) -> Result<(), Memory>
+    ensures ok { OnOk result (out.new.items ≡ out.old.items ++ bad_line line) }
+    ensures err { OnErr result (out.new.items ≡ out.old.items) }
+{
+    write_pieces(
+        out,
+        &[
+            Piece::Text(b"line "),
+            Piece::Number(u64::from(line)),
+            Piece::Text(b" bad\n"),
+        ],
+    )
+}
+
+/// The words of an outcome: a text, and what stands behind it.
+#[tactic(auto, unfolding(crate::specs::Transcript::outcome_words))]
+fn outcome_pieces(outcome: &Outcome) -> (&[u8], Piece<'_>)
+    ensures { result.0.now ++ piece_text result.1 ≡ outcome_words outcome.now }
+{
+    match outcome {
+        Outcome::Put(id) => (b"ok ", Piece::Id(*id)),
+        Outcome::Bytes(bytes) => (b"ok ", Piece::Sized(bytes.as_slice())),
+        Outcome::NoId => (b"noid", Piece::Text(b"")),
+        Outcome::TooLarge(length) => (b"toolarge ", Piece::Number(*length)),
+        Outcome::Memory => (b"memory", Piece::Text(b"")),
+    }
+}
+
+/// Adds pieces, all of them or, on a refusal, none.
+fn write_pieces(out: &mut Vec<u8>, pieces: &[Piece<'_>]) -> Result<(), Memory>
+    ensures ok { OnOk result (out.new.items ≡ out.old.items ++ flat_map piece_text pieces.now) }
+    ensures err { OnErr result (out.new.items ≡ out.old.items) }
+{
+    let start = out.len();
+    match add_pieces(out, pieces) {
+        Ok(()) => Ok(()),
+        Err(refused) => {
+            out.truncate(start);
+            Err(refused)
+        }
+    }
+}
+
+/// Adds pieces. A refusal leaves some of them behind.
+fn add_pieces(out: &mut Vec<u8>, pieces: &[Piece<'_>]) -> Result<(), Memory>
+    ensures ok { OnOk result (out.new.items ≡ out.old.items ++ flat_map piece_text pieces.now) }
+    ensures kept { BeginsWith out.old.items out.new.items }
+{
+    for piece in pieces {
+        add_piece(out, piece)?;
+    }
+    Ok(())
+}
+
+fn add_piece(out: &mut Vec<u8>, piece: &Piece<'_>) -> Result<(), Memory>
+    ensures ok { OnOk result (out.new.items ≡ out.old.items ++ piece_text piece.now) }
+    ensures kept { BeginsWith out.old.items out.new.items }
+{
+    match piece {
+        Piece::Text(text) => add(out, text),
+        Piece::Number(number) => add_number(out, *number),
+        Piece::Sized(bytes) => add_sized(out, bytes),
+        Piece::Id(id) => {
+            let bytes = id.bytes();
+            add_digits(out, bytes.as_slice())
+        }
+    }
+}
+
+#[tactic(auto, using(crate::proofs::PieceLemmas::begins_with_itself, crate::proofs::PieceLemmas::begins_with_front))]
+fn add(out: &mut Vec<u8>, text: &[u8]) -> Result<(), Memory>
+    ensures ok { OnOk result (out.new.items ≡ out.old.items ++ text.now) }
+    ensures kept { BeginsWith out.old.items out.new.items }
+{
+    out.extend_from_slice(text)?;
+    Ok(())
+}
+
+fn add_number(out: &mut Vec<u8>, number: u64) -> Result<(), Memory>
+    ensures ok { OnOk result (out.new.items ≡ out.old.items ++ decimal number) }
+    ensures kept { BeginsWith out.old.items out.new.items }
+{
+    let mut buffer = Buffer::new();
+    add(out, buffer.format(number).as_bytes())
+}
+
+fn add_sized(out: &mut Vec<u8>, bytes: &[u8]) -> Result<(), Memory>
+    ensures ok { OnOk result (out.new.items ≡ out.old.items ++ sized_bytes bytes.now) }
+    ensures kept { BeginsWith out.old.items out.new.items }
+{
+    add_number(out, bytes.len() as u64)?;
+    add(out, b" ")?;
+    add_spelled(out, bytes)
+}
+
+/// Adds `-` for no bytes, else two digits for each byte.
+fn add_spelled(out: &mut Vec<u8>, bytes: &[u8]) -> Result<(), Memory>
+    ensures ok { OnOk result (out.new.items ≡ out.old.items ++ spelled_bytes bytes.now) }
+    ensures kept { BeginsWith out.old.items out.new.items }
+{
+    match bytes {
+        [] => add(out, b"-"),
+        _ => add_digits(out, bytes),
+    }
+}
+
+/// Adds two digits for each byte, in room that is made at once.
+#[tactic(auto, using(crate::proofs::PieceLemmas::begins_with_itself), unfolding(hex::specs::Hex::encode_with))]
+fn add_digits(out: &mut Vec<u8>, bytes: &[u8]) -> Result<(), Memory>
+    ensures ok { OnOk result (out.new.items ≡ out.old.items ++ encode_lower bytes.now) }
+    ensures kept { BeginsWith out.old.items out.new.items }
+{
+    out.reserve(bytes.len().saturating_mul(2))?;
+    for byte in bytes {
+        add(out, &[digit(*byte / 16), digit(*byte % 16)])?;
+    }
+    Ok(())
+}
+
+/// A digit, in lower case.
+fn digit(value: u8) -> u8
+    requires { value < 16 }
+    ensures { result ≡ slice_index lower_digits value }
+{
+    b"0123456789abcdef"[value as usize]
+}
