@@ -1,0 +1,5 @@
+pub mod NumberBytes
+pub mod Tools
+pub mod Fields
+pub mod Fronts
+pub mod Firsts
