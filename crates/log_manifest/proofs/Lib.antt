@@ -1,0 +1,4 @@
+pub mod Lives
+pub mod Distinct
+pub mod Parts
+pub mod Whole
