@@ -1,0 +1,11 @@
+pub mod Content
+pub mod Silent
+pub mod Unsynced
+pub mod UnsyncedLaws
+pub mod MemDisk
+pub mod Fuse
+pub mod FuseDisk
+pub mod Homes
+pub mod Places
+pub mod MemBays
+pub mod FuseBays
