@@ -1,0 +1,6 @@
+pub mod Gates
+pub mod Cells
+pub mod Writes
+pub mod Rest
+pub mod OtherSlot
+pub mod Loading
