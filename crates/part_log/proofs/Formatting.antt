@@ -1,0 +1,119 @@
+-- A new disk is given its first manifest.
+use Rattle.std.proofs.Common.{◌≡◌, ◌≢◌, ◌⊎◌, inl, inr, ⊎_elim, ℕ, ◌+◌, ◌*◌, ◌-◌, ◌<◌, ◌≤◌, ◌^◌, List, [], ◌∷◌, length, get_or, Option, Some, None, Bool, not, refl, sym, ◌∙◌, ap, subst, arith, add-zero, lit≤}
+use Rattle.disk_core.specs.Content.{Content, ChangesBy, Only, Holds, Torn, range}
+use Rattle.disk_core.proofs.Ranges.{range-torn}
+use Rattle.disk_core.proofs.Changes.{widen, chain, image_from}
+use Rattle.gate_slots.specs.Cell.{Cell, cell_at, ReplacesCell}
+use Rattle.gate_slots.specs.Slots.{CurrentSlot, IsLoaded}
+use Rattle.gate_slots.proofs.Gates.{byte_at}
+use Rattle.log_manifest.specs.declared.manifest.LogSettings.{LogSettings}
+use Rattle.log_manifest.specs.Manifests.{IsManifest, IsLive, manifest_text}
+use Rattle.msg_format.specs.declared.record.Record.{Record}
+use Rattle.part_log.specs.Segments.{place_of, ChangesIn}
+use Rattle.part_log.specs.Images.{HasLog, IsNew, StandsFor, OpensLog}
+use Rattle.part_log.specs.Log.{AreInRange, IsLog, IsShown, IsTable, LogTable, first_table, manifest_of}
+use Rattle.part_log.proofs.Fronts.{shown_stands, value_same}
+use Rattle.part_log.proofs.Segments.{write_first, write_cell, writes_twice}
+
+none_or_some : (v : Option (List ℕ)) (bytes : List ℕ) → v ≡ None → v ≡ Some bytes → ⊥
+none_or_some v bytes none some = let both : None ≡ Some bytes = sym none ∙ some in absurd (cc both)
+
+-- what stands for a new disk still does when its manifest's cell has no value
+still_new : (settings : LogSettings) (d c : List ℕ) (records : List Record) (end : ℕ) → (cell_at 0 d).value ≡ None → (cell_at 0 c).value ≡ None → StandsFor settings d records end → StandsFor settings c records end
+still_new settings d c records end none still (inl log) = absurd (none_or_some (cell_at 0 d).value (manifest_text log.manifest) none log.has.value)
+still_new settings d c records end none still (inr new) = inr (record { none = still; empty = new.empty; first = new.first })
+
+-- and a disk that was new stands for the empty log
+named_new : (settings : LogSettings) (records : List Record) (end : ℕ) (d c : List ℕ) → (cell_at 0 d).value ≡ None → HasLog settings c [] 0 → StandsFor settings d records end → StandsFor settings c records end
+named_new settings records end d c none log (inl was) = absurd (none_or_some (cell_at 0 d).value (manifest_text was.manifest) none was.has.value)
+named_new settings records end d c none log (inr new) = inl (subst (λ (n : ℕ). HasLog settings c records n) (sym new.first) (subst (λ (l : List Record). HasLog settings c l 0) (sym new.empty) log))
+
+pub first_manifest : (settings : LogSettings) (slots : CurrentSlot) → AreInRange settings → IsManifest (manifest_of (first_table settings slots) 0)
+first_manifest settings slots ranges = record {
+  segment = omega (arith, ranges.greatest);
+  segments = omega (arith, ranges.most);
+  index = omega (arith, ranges.index_most);
+  next_generation = lit≤ tt;
+  floor = lit≤ tt;
+  some = omega arith;
+  few = omega (arith, ranges.fewest);
+  each = λ k d lt. let first : k ≡ 0 = omega (arith, lt) in subst (λ (j : ℕ). IsLive (manifest_of (first_table settings slots) 0) (get_or (record { segment = 0; generation = 0 } ∷ []) j d)) (sym first) (record { segment = omega (arith, ranges.fewest); generation = omega arith });
+  segments_apart = λ i j d lt short. absurd (omega (arith, lt, short));
+  generations_apart = λ i j d lt short. absurd (omega (arith, lt, short));
+}
+
+pub first_good : (settings : LogSettings) (slots : CurrentSlot) → AreInRange settings → slots.base ≡ 0 → slots.sequence < 2 ^ 63 → IsTable (first_table settings slots)
+first_good settings slots ranges base below = record {
+  settings = ranges;
+  manifest = first_manifest settings slots ranges;
+  fit = (omega arith, tt);
+  base = base;
+  sequence = below;
+}
+
+module _ (settings : LogSettings) (ranges : AreInRange settings) (place : ℕ) (is : place ≡ 4096) (old mid : Content) (only : Only old) (none : (cell_at 0 old.seen).value ≡ None) (write : ChangesBy (Torn place 1) old mid) where
+  at_first : place ≡ place_of settings.segment 0
+  at_first = omega (arith, is)
+
+  still_none : (d c : List ℕ) → old.images d → Torn place 1 d c → (cell_at 0 c).value ≡ None
+  still_none d c image torn = value_same c d None (range-torn place 1 0 2048 d c torn (inl (omega (arith, is)))) (ap (λ (l : List ℕ). (cell_at 0 l).value) (only d image) ∙ none)
+
+  pub opens_blank : ChangesBy (OpensLog settings) old mid
+  opens_blank = widen (Torn place 1) (OpensLog settings) old mid write (λ d c image torn. record {
+    changes = write_first settings.segment 0 place d c (omega (arith, ranges.least)) at_first torn;
+    stands = λ records end stands. still_new settings d c records end (ap (λ (l : List ℕ). (cell_at 0 l).value) (only d image) ∙ none) (still_none d c image torn) stands;
+  })
+
+  module _ (new : Content) (slots : CurrentSlot) (text : List ℕ) (text_is : text ≡ manifest_text (manifest_of (first_table settings slots) 0)) (base : slots.base ≡ 0) (below : slots.sequence < 2 ^ 63)
+      (holds : Holds place (0 ∷ []) old.seen mid.seen) (only_mid : Only mid) (replaces : ChangesBy (ReplacesCell 0 text) mid new) where
+    first_shown : (e c : List ℕ) → mid.images e → ReplacesCell 0 text e c → (cell_at 0 c).value ≡ Some text → IsShown (first_table settings slots) 0 ([] ∷ []) c
+    first_shown e c image by value =
+        let byte : get_or c (place_of settings.segment 0 + 0) 0 ≡ 0 =
+        ap (λ (k : ℕ). get_or c k 0) (let p : place_of settings.segment 0 + 0 ≡ place = omega (arith, is) in p)
+        ∙ by.torn.others place (inr (omega (arith, is)))
+        ∙ ap (λ (l : List ℕ). get_or l place 0) (only_mid e image)
+        ∙ sym (byte_at place mid.seen)
+        ∙ ap (λ (l : List ℕ). get_or l 0 0) holds.here in
+        record {
+          value = value ∙ ap (λ (l : List ℕ). Some l) text_is;
+          fronts = (record { front = refl; shut = λ room at. omega (arith, byte, at) }, tt);
+        }
+
+    first_stands : (e c : List ℕ) → mid.images e → ReplacesCell 0 text e c → (cell_at 0 c).value ≡ Some text → HasLog settings c [] 0
+    first_stands e c image by value = shown_stands (first_table settings slots) 0 ([] ∷ []) c (first_good settings slots ranges base below) (refl, tt, tt) tt refl (first_shown e c image by value)
+
+    none_mid : (e : List ℕ) → mid.images e → (cell_at 0 e).value ≡ None
+    none_mid e image = let from = image_from (Torn place 1) old mid write e image in still_none from.0 e from.1 from.2
+
+    pub opens_format : ChangesBy (OpensLog settings) old new
+    opens_format = chain (OpensLog settings) (ReplacesCell 0 text) (OpensLog settings) old mid new opens_blank replaces
+        (λ d c image by. by)
+        (λ e c image by.
+        let from = image_from (Torn place 1) old mid write e image in
+        let none_old : (cell_at 0 from.0).value ≡ None = ap (λ (l : List ℕ). (cell_at 0 l).value) (only from.0 from.1) ∙ none in (
+          from.0,
+          from.1,
+          record {
+            changes = writes_twice settings.segment 0 from.0 e c (write_first settings.segment 0 place from.0 e (omega (arith, ranges.least)) at_first from.2) (write_cell settings.segment 0 e c by.torn);
+            stands = λ records end stands. ⊎_elim
+                (λ same. still_new settings from.0 c records end none_old (same ∙ none_mid e image) stands)
+                (λ named. named_new settings records end from.0 c none_old (first_stands e c image by named) stands)
+                by.value;
+          },
+        ))
+
+    pub first_log : (cell_at 0 new.seen).value ≡ Some text → IsLoaded slots new.seen → Only new → IsLog (first_table settings slots) new []
+    first_log value loaded only_new =
+        let from = image_from (ReplacesCell 0 text) mid new replaces new.seen new.sees in
+        record {
+          floor = 0;
+          parts = [] ∷ [];
+          sized = (refl, tt, tt);
+          all = refl;
+          rises = tt;
+          firsts = (refl, tt);
+          ends = refl;
+          shown = λ c image. subst (λ (l : List ℕ). IsShown (first_table settings slots) 0 ([] ∷ []) l) (sym (only_new c image)) (first_shown from.0 new.seen from.1 from.2 value);
+          loaded = loaded;
+          settled = λ c image. ap (range 0 2048) (only_new c image);
+        }

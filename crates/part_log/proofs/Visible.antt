@@ -1,0 +1,111 @@
+-- A record of the log, at its place.
+use Rattle.std.proofs.Common.{◌≡◌, ◌≢◌, ◌⊎◌, inl, inr, ⊎_elim, ℕ, ◌+◌, ◌*◌, ◌-◌, ◌<◌, ◌≤◌, ◌%◌, ◌/◌, List, [], ◌∷◌, ◌++◌, length, take, drop, suc, refl, sym, ◌∙◌, ap, subst, arith, length-append, All}
+use Rattle.std.proofs.lemmas.Nat.{mod-mul-add}
+use Rattle.std.proofs.lemmas.List.{take_at, drop_at, take-take, drop-drop}
+use Rattle.disk_core.specs.Content.{Content, ChangesBy, Same, range}
+use Rattle.disk_core.proofs.Ranges.{range-range, range-split}
+use Rattle.disk_core.proofs.Changes.{same_image}
+use Rattle.gate_slots.specs.Slots.{IsLoaded}
+use Rattle.log_manifest.specs.declared.manifest.Manifest.{Manifest}
+use Rattle.log_manifest.specs.Manifests.{IsLive}
+use Rattle.msg_format.specs.declared.record.Record.{Record}
+use Rattle.msg_format.specs.Records.{BeginsWith, IsRecord, record_text}
+use Rattle.part_log.specs.declared.segment.SegmentInfo.{SegmentInfo}
+use Rattle.part_log.specs.Records.{laid, AreRecords, Placed, placed_from, IsPlaced}
+use Rattle.part_log.specs.Segments.{place_of, lives_of}
+use Rattle.part_log.specs.Log.{LogTable, IsTable, IsLog, AllFit, AllSized, AllFront, placed_in}
+
+placed_either : (p : Placed) (xs ys : List Placed) → IsPlaced p (xs ++ ys) → IsPlaced p xs ⊎ IsPlaced p ys
+placed_either p [] ys there = inr there
+placed_either p (x ∷ xs) ys (inl same) = inl (inl same)
+placed_either p (x ∷ xs) ys (inr there) = ⊎_elim (λ (front : IsPlaced p xs). inl (inr front)) (λ (back : IsPlaced p ys). inr back) (placed_either p xs ys there)
+
+-- a record among those of one segment
+record StandsIn (place : ℕ) (bytes : List ℕ) (p : Placed) : Type 0 where
+  offset : ℕ
+  at : p.place ≡ place + offset
+  fits : offset + length (record_text p.entry) ≤ length bytes
+  here : range offset (length (record_text p.entry)) bytes ≡ record_text p.entry
+  good : IsRecord p.entry
+
+in_part : (place : ℕ) (part : List Record) (p : Placed) → AreRecords part → IsPlaced p (placed_from place part) → StandsIn place (laid part) p
+in_part place [] p good there = absurd there
+in_part place (r ∷ part) p good (inl same) =
+    let entry_is : p.entry ≡ r = ap (λ (q : Placed). q.entry) same in
+    record {
+      offset = 0;
+      at = omega (arith, ap (λ (q : Placed). q.place) same);
+      fits = omega (arith, ap (λ (e : Record). length (record_text e)) entry_is, length-append (record_text r) (laid part));
+      here = ap (λ (e : Record). range 0 (length (record_text e)) (record_text r ++ laid part)) entry_is ∙ take_at (record_text r) (laid part) (length (record_text r)) refl ∙ ap (λ (e : Record). record_text e) (sym entry_is);
+      good = subst (λ (e : Record). IsRecord e) (sym entry_is) good.0;
+    }
+in_part place (r ∷ part) p good (inr there) =
+    let n : ℕ = length (record_text r) in
+    let rest = in_part (place + n) part p good.1 there in
+    let m : ℕ = length (record_text p.entry) in
+    record {
+      offset = n + rest.offset;
+      at = omega (arith, rest.at);
+      fits = omega (arith, rest.fits, length-append (record_text r) (laid part));
+      here = ap (λ (l : List ℕ). take m l) (sym (drop-drop rest.offset n (record_text r ++ laid part))) ∙ ap (λ (l : List ℕ). range rest.offset m l) (drop_at (record_text r) (laid part) n refl) ∙ rest.here;
+      good = rest.good;
+    }
+
+-- a record that can be read: it stands in a segment
+pub record IsVisible (segment segments : ℕ) (bytes : List ℕ) (p : Placed) : Type 0 where
+  pub number : ℕ
+  pub small : number < segments
+  pub offset : ℕ
+  pub at : p.place ≡ 4096 + number * segment + offset
+  pub fits : offset + length (record_text p.entry) ≤ segment
+  pub here : range p.place (length (record_text p.entry)) bytes ≡ record_text p.entry
+  pub good : IsRecord p.entry
+
+in_segments : (segment : ℕ) (manifest : Manifest) (infos : List SegmentInfo) (parts : List (List Record)) (c : List ℕ) (p : Placed) → All (IsLive manifest) (lives_of infos) → AllFit segment infos → AllSized infos parts → AllFront segment infos parts c
+    → IsPlaced p (placed_in segment infos parts) → IsVisible segment manifest.settings.segments c p
+in_segments segment manifest [] parts c p each fit sized fronts there = absurd there
+in_segments segment manifest (info ∷ infos) [] c p each fit sized fronts there = absurd there
+in_segments segment manifest (info ∷ infos) (part ∷ parts) c p each fit sized fronts there = ⊎_elim
+    (λ (here : IsPlaced p (placed_from (place_of segment info.segment) part)).
+    let stands = in_part (place_of segment info.segment) part p sized.1 here in
+    let m : ℕ = length (record_text p.entry) in
+    let inside : stands.offset + m ≤ info.used = omega (arith, stands.fits, sized.0) in
+    let its : IsVisible segment manifest.settings.segments c p = record {
+      number = info.segment;
+      small = (each 0 (record { segment = 0; generation = 0 }) (omega arith)).segment;
+      offset = stands.offset;
+      at = stands.at;
+      fits = omega (arith, inside, fit.0);
+      here = ap (λ (k : ℕ). range k m c) stands.at ∙ sym (range-range (place_of segment info.segment) info.used stands.offset m c inside) ∙ ap (range stands.offset m) fronts.0.front ∙ stands.here;
+      good = stands.good;
+    } in its)
+    (λ (later : IsPlaced p (placed_in segment infos parts)). in_segments segment manifest infos parts c p (λ k d lt. each (suc k) d (omega (arith, lt))) fit.1 sized.2 fronts.1 later)
+    (placed_either p (placed_from (place_of segment info.segment) part) (placed_in segment infos parts) there)
+
+pub visible : (table : LogTable) (content : Content) (placed : List Placed) (p : Placed) → IsTable table → IsLog table content placed → IsPlaced p placed → IsVisible table.settings.segment table.settings.segments content.seen p
+visible table content placed p good log there = in_segments table.settings.segment _ table.segments log.parts content.seen p good.manifest.each good.fit log.sized (log.shown content.seen content.sees).fronts (subst (λ (l : List Placed). IsPlaced p l) log.all there)
+
+-- the bytes from there on begin with it
+pub begins_there : (place left : ℕ) (bytes : List ℕ) (entry : Record) → length (record_text entry) ≤ left → range place (length (record_text entry)) bytes ≡ record_text entry → IsRecord entry → BeginsWith (range place left bytes) entry
+begins_there place left bytes entry fits here good =
+    let n : ℕ = length (record_text entry) in
+    record {
+      fits = good;
+      rest = range (place + n) (left - n) bytes;
+      parts = ap (λ (k : ℕ). range place k bytes) (let e : left ≡ n + (left - n) = omega (arith, fits) in e) ∙ range-split place n (left - n) bytes ∙ ap (λ (l : List ℕ). l ++ range (place + n) (left - n) bytes) here;
+    }
+
+-- a call that changes nothing leaves a log
+pub log_same : (table : LogTable) (old new : Content) (placed : List Placed) → ChangesBy Same old new → new.seen ≡ old.seen → IsLog table old placed → IsLog table new placed
+log_same table old new placed changes seen log = record {
+  floor = log.floor;
+  parts = log.parts;
+  sized = log.sized;
+  all = log.all;
+  rises = log.rises;
+  firsts = log.firsts;
+  ends = log.ends;
+  shown = λ c image. log.shown c (same_image old new changes c image);
+  loaded = subst (λ (l : List ℕ). IsLoaded table.slots l) (sym seen) log.loaded;
+  settled = λ c image. log.settled c (same_image old new changes c image) ∙ ap (range 0 2048) (sym seen);
+}

@@ -1,0 +1,46 @@
+use Rattle.std.proofs.Common.{◌≡◌, inr, ℕ, ◌+◌, ◌*◌, ◌<◌, ◌≤◌, ◌^◌, List, [], ◌∷◌, ◌++◌, refl, sym, ◌∙◌, ap, subst, arith}
+use Rattle.gate_slots.specs.Slots.{CurrentSlot}
+use Rattle.log_manifest.specs.Manifests.{manifest_text}
+use Rattle.part_log.specs.declared.segment.SegmentInfo.{SegmentInfo}
+use Rattle.part_log.specs.Segments.{lives_of, place_of}
+use Rattle.part_log.specs.Log.{IsLog, IsTable, first_table, manifest_of}
+use Rattle.part_log.proofs.Formatting.{first_good}
+use Rattle.part_log.proofs.opening.format.Goals as goal
+
+pub returns-in_err-name_segment-clause-outside : goal.returns-in_err-name_segment-clause-outside
+returns-in_err-name_segment-clause-outside g c = λ t. c.name_segment.ensures.outside t c.args.settings.segment 0 (omega (arith, c.requires.ranges.least)) (omega arith)
+
+pub returns-clause-outside : goal.returns-clause-outside
+returns-clause-outside g c = λ t. c.name_segment.ensures.outside t c.args.settings.segment 0 (omega (arith, c.requires.ranges.least)) (omega arith)
+
+pub returns-clause-during : goal.returns-clause-during
+returns-clause-during g c = λ t.
+    let first : SegmentInfo = record { segment = 0; generation = 0; used = 0; first = 0 } in
+    let segments_are = c.in_ok-add_info.ensures ∙ ap (λ (l : List SegmentInfo). l ++ first ∷ []) c.new-segments.ensures.items in
+    let text_is : c.as_slice.result.now ≡ manifest_text (manifest_of (first_table c.args.settings c.args.slots) 0) =
+    c.as_slice.ensures ∙ c.in_ok-text.ensures ∙ ap (λ (l : List SegmentInfo). manifest_text (record { settings = c.args.settings; next_generation = 1; floor = 0; live = lives_of l })) (c.deref.ensures.value ∙ segments_are) in
+    c.name_segment.ensures.formats t c.args.settings c.requires.ranges refl text_is (c.requires.only t) (c.requires.value t)
+
+pub returns-clause-table : goal.returns-clause-table
+returns-clause-table g c =
+    let first : SegmentInfo = record { segment = 0; generation = 0; used = 0; first = 0 } in
+    let segments_are = c.in_ok-add_info.ensures ∙ ap (λ (l : List SegmentInfo). l ++ first ∷ []) c.new-segments.ensures.items in
+    let slots = c.name_segment.new.slots in
+    let slots_are = c.in_ok-name_segment.ensures.slots in
+    subst (λ (l : List SegmentInfo). IsTable (record { settings = c.args.settings; segments = l; next_generation = 1; end = 0; slots = slots })) (sym segments_are)
+    (first_good c.args.settings slots c.requires.ranges (ap (λ (s : CurrentSlot). s.base) slots_are) (omega (arith, c.requires.sequence, ap (λ (s : CurrentSlot). s.sequence) slots_are)))
+
+pub returns-clause-opened : goal.returns-clause-opened
+returns-clause-opened g c = λ t.
+    let first : SegmentInfo = record { segment = 0; generation = 0; used = 0; first = 0 } in
+    let segments_are = c.in_ok-add_info.ensures ∙ ap (λ (l : List SegmentInfo). l ++ first ∷ []) c.new-segments.ensures.items in
+    let slots = c.name_segment.new.slots in
+    let text_is : c.as_slice.result.now ≡ manifest_text (manifest_of (first_table c.args.settings slots) 0) =
+    c.as_slice.ensures ∙ c.in_ok-text.ensures ∙ ap (λ (l : List SegmentInfo). manifest_text (record { settings = c.args.settings; next_generation = 1; floor = 0; live = lives_of l })) (c.deref.ensures.value ∙ segments_are) in
+    record {
+      placed = [];
+      log = subst (λ (l : List SegmentInfo). IsLog (record { settings = c.args.settings; segments = l; next_generation = 1; end = 0; slots = slots }) (g.D.Disk.content c.name_segment.new.disk) []) (sym segments_are)
+          (c.in_ok-name_segment.ensures.formatted t c.args.settings c.requires.ranges refl text_is (c.requires.only t) (c.requires.value t));
+      stands = inr (record { none = c.requires.value t; empty = refl; first = refl });
+      found = c.new.ensures.items;
+    }

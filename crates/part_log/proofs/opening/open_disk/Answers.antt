@@ -1,0 +1,47 @@
+use Rattle.std.proofs.Common.{◌≡◌, ℕ, List, sym, ◌∙◌, ap, subst}
+use Rattle.part_log.specs.Segments.{ChangesIn}
+use Rattle.part_log.specs.Images.{IsDamaged, NamesOther}
+use Rattle.part_log.specs.Opened.{IsOpened}
+use Rattle.part_log.proofs.Segments.{no_write}
+use Rattle.part_log.proofs.Room.{if_ok_map}
+use Rattle.part_log.proofs.Scanning.{same_twice}
+use Rattle.part_log.proofs.Reopening.{opens_same, opens_after}
+use Rattle.part_log.proofs.opening.open_disk.Goals as goal
+
+pub returns-in-Some-clause-during : goal.returns-in-Some-clause-during
+returns-in-Some-clause-during g c = λ t.
+    let old = g.D.Disk.content c.args.disk.now in
+    let synced = g.D.Disk.content c.sync.new.self in
+    let loaded = g.D.Disk.content c.load.new.disk in
+    let new = g.D.Disk.content c.read_named.new.disk in
+    opens_same c.args.settings old new (same_twice old loaded new (same_twice old synced loaded (c.sync.ensures.told t).during (c.load.ensures.during t)) (c.read_named.ensures.during t))
+
+pub returns-in-Some-clause-outside : goal.returns-in-Some-clause-outside
+returns-in-Some-clause-outside g c = λ t.
+    let seen = (g.D.Disk.content c.args.disk.now).seen in
+    let whole = c.read_named.ensures.seen t ∙ c.load.ensures.seen t ∙ (c.sync.ensures.told t).seen in
+    subst (λ (l : List ℕ). ChangesIn c.args.settings.segment 0 seen l) (sym whole) (no_write c.args.settings.segment 0 seen)
+
+pub returns-in-Some-clause-damaged : goal.returns-in-Some-clause-damaged
+returns-in-Some-clause-damaged g c = λ at is t.
+    subst (λ (l : List ℕ). IsDamaged c.args.settings l at) (c.load.ensures.seen t ∙ (c.sync.ensures.told t).seen) (c.read_named.ensures.damaged at is t)
+
+pub returns-in-Some-clause-settings : goal.returns-in-Some-clause-settings
+returns-in-Some-clause-settings g c = λ other is t.
+    subst (λ (l : List ℕ). NamesOther c.args.settings other l) (c.load.ensures.seen t ∙ (c.sync.ensures.told t).seen) (c.read_named.ensures.settings other is t)
+
+pub returns-in-None-clause-during : goal.returns-in-None-clause-during
+returns-in-None-clause-during g c = λ t.
+    let old = g.D.Disk.content c.args.disk.now in
+    let synced = g.D.Disk.content c.sync.new.self in
+    let loaded = g.D.Disk.content c.load.new.disk in
+    let new = g.D.Disk.content c.format.new.disk in
+    opens_after c.args.settings old loaded new (same_twice old synced loaded (c.sync.ensures.told t).during (c.load.ensures.during t)) (c.format.ensures.during t)
+
+pub returns-in-None-clause-opened : goal.returns-in-None-clause-opened
+returns-in-None-clause-opened g c =
+    if_ok_map c.format.result _ _ c.format.ensures.opened (λ opened given t.
+    subst (λ (l : List ℕ). IsOpened c.args.settings l opened (g.D.Disk.content c.format.new.disk)) (c.load.ensures.seen t ∙ (c.sync.ensures.told t).seen) (given t))
+
+pub returns-in-None-clause-settings : goal.returns-in-None-clause-settings
+returns-in-None-clause-settings g c = λ other is t. absurd (c.format.ensures.settings other is)

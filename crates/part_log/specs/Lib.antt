@@ -1,0 +1,6 @@
+pub mod Records
+pub mod Segments
+pub mod Images
+pub mod Log
+pub mod Scan
+pub mod Opened

@@ -1,0 +1,18 @@
+//! The log of a replica on a disk: a list of records that a stop of the machine leaves with at most the last one in doubt.
+#![tactic(auto)]
+
+mod appending;
+mod fault;
+mod log;
+mod opening;
+mod piece;
+mod reading;
+mod rolling;
+mod scan;
+mod segment;
+mod table;
+
+pub use fault::{LogFault, OpenFault};
+pub use log::PartLog;
+pub use log_manifest::LogSettings;
+pub use segment::{Found, SegmentInfo};
