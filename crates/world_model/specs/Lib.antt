@@ -1,0 +1,16 @@
+pub mod Lists
+pub mod Shape
+pub mod Frames
+pub mod Record
+pub mod Rules
+pub mod Pieces
+pub mod World
+pub mod Notes
+pub mod Local
+pub mod Outcomes
+pub mod Router
+pub mod Ordered
+pub mod Safe
+pub mod Told
+pub mod Fabric
+pub mod Schedule

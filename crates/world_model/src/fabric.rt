@@ -1,0 +1,163 @@
+//! The network as the router and the session see it.
+
+ghost use Rattle.std.specs.Prelude.{◌≡◌, ℕ, ◌≤◌, Bool, true, List, [], Option, Some, None, IsSome, IfOk, OnOk, OnErr, IsErrOf};
+ghost use Rattle.outside.specs.Causes.{Rose};
+ghost use Rattle.world_model.specs.declared.shape.Shape.{Shape};
+ghost use Rattle.world_model.specs.declared.step.Called.{Called};
+ghost use Rattle.world_model.specs.Fabric.{Awaits, DidNothing, Gave, HasNode, Image, KeepsRun, Tells, TellsSend};
+ghost use Rattle.world_model.specs.Shape.{IsShape};
+
+use crate::shape::Shape;
+use crate::step::Event;
+use blob_id::Memory;
+use thiserror::Error;
+
+/// Why a network couldn't be opened.
+#[derive(Clone, Copy, Debug, PartialEq, Eq, Error)]
+pub enum StartFault {
+    #[error("the network failed")]
+    Failed,
+    #[error("out of memory")]
+    Memory,
+}
+
+/// Why a frame couldn't be sent.
+#[derive(Clone, Copy, Debug, PartialEq, Eq, Error)]
+pub enum SendFault {
+    #[error("the frame couldn't be sent")]
+    Failed,
+    #[error("out of memory")]
+    Memory,
+}
+
+/// A network of nodes. Where `told` is some list, it tells what its calls did, the newest first. Where what it tells is a run
+/// of the model from given cells to the image that it tells, each call keeps this.
+pub trait Fabric {
+    /// How often it has failed.
+    ghost faults: { Self → ℕ };
+
+    /// Whether it was never opened.
+    ghost fresh: { Self → Bool };
+
+    /// The shape that it is open for.
+    ghost opened: { Self → Option Shape };
+
+    /// What its calls did, where it tells this. A call that finds no memory and `close` tell nothing.
+    ghost told: { Self → Option (List Called) };
+
+    /// For a shape and a folder, what its replicas hold, where it tells this: before `open` what an opening would find.
+    ghost image: { Self → Shape → List ℕ → Option Image };
+
+    /// What a network of this kind may become by its calls.
+    ghost goes: { Self → Self → Type 0 };
+
+    /// What it may become where some of the calls fail or find no memory.
+    ghost falls: { Self → Self → Type 0 };
+
+    /// Opens it for a cluster whose disks lie in a folder.
+    fn open(&mut self, shape: &Shape, folder: &str) -> Result<(), StartFault>
+        requires fresh { fresh self.old ≡ true }
+        requires shape { IsShape shape.now }
+        ensures later { faults self.old ≤ faults self.new }
+        ensures cause { IsErrOf result StartFault.Failed → Rose (faults self.old) (faults self.new) }
+        ensures opened { OnOk result (opened self.new ≡ Some shape.now) }
+        ensures told { OnOk result (Tells (told self.old) (told self.new) DidNothing) }
+        ensures err { OnErr result (told self.new ≡ told self.old) }
+        ensures run { OnOk result (KeepsRun (told self.old) (image self.old shape.now folder.now) (told self.new) (image self.new shape.now folder.now)) }
+        ensures goes { OnOk result (goes self.old self.new) }
+        ensures falls { falls self.old self.new };
+
+    /// Sends a request to a node. `Failed` is a refusal, which is told; after `Memory` nothing was sent.
+    fn send(&mut self, node: u32, frame: &[u8]) -> Result<(), SendFault>
+        requires node { HasNode (opened self.old) node }
+        ensures later { faults self.old ≤ faults self.new }
+        ensures cause { IsErrOf result SendFault.Failed → Rose (faults self.old) (faults self.new) }
+        ensures opened { opened self.new ≡ opened self.old }
+        ensures told { TellsSend result (told self.old) (told self.new) node frame.now }
+        ensures run { (cluster : Shape) (place : List ℕ) → KeepsRun (told self.old) (image self.old cluster place) (told self.new) (image self.new cluster place) }
+        ensures goes { (IsErrOf result SendFault.Memory → ⊥) → goes self.old self.new }
+        ensures falls { falls self.old self.new };
+
+    /// Gives the oldest event that was made and not given yet, or moves on and gives what comes of it. After `Memory` nothing
+    /// was done.
+    fn next(&mut self) -> Result<Event, Memory>
+        requires open { IsSome (opened self.old) }
+        ensures later { faults self.old ≤ faults self.new }
+        ensures opened { opened self.new ≡ opened self.old }
+        ensures told { IfOk result (λ event. Tells (told self.old) (told self.new) (Gave event)) }
+        ensures err { OnErr result (told self.new ≡ told self.old) }
+        ensures run { (cluster : Shape) (place : List ℕ) → KeepsRun (told self.old) (image self.old cluster place) (told self.new) (image self.new cluster place) }
+        ensures goes { OnOk result (goes self.old self.new) }
+        ensures falls { falls self.old self.new };
+
+    /// How many events `next` gives before it moves on.
+    fn queued(&self) -> u32
+        ensures { Awaits (told self.now) result };
+
+    /// Closes it. It can't be opened again.
+    fn close(&mut self)
+        requires open { IsSome (opened self.old) }
+        ensures later { faults self.old ≤ faults self.new }
+        ensures opened { opened self.new ≡ None }
+        ensures told { told self.new ≡ told self.old }
+        ensures run { (cluster : Shape) (place : List ℕ) → KeepsRun (told self.old) (image self.old cluster place) (told self.new) (image self.new cluster place) }
+        ensures goes { goes self.old self.new };
+
+    /// A network that was never opened has done nothing.
+    ghost fresh_did_nothing: { (a : Self) (calls : List Called) → fresh a ≡ true → told a ≡ Some calls → calls ≡ [] };
+
+    ghost goes_nowhere: { (a : Self) → goes a a };
+
+    ghost goes_on: { (a b c : Self) → goes a b → goes b c → goes a c };
+
+    ghost falls_as_it_goes: { (a b : Self) → goes a b → falls a b };
+
+    ghost falls_on: { (a b c : Self) → falls a b → falls b c → falls a c };
+}
+
+/// A network that is lent.
+impl<F: Fabric> Fabric for &mut F {
+    ghost faults = { λ f. F.faults f.now };
+
+    ghost fresh = { λ f. F.fresh f.now };
+
+    ghost opened = { λ f. F.opened f.now };
+
+    ghost told = { λ f. F.told f.now };
+
+    ghost image = { λ f cluster place. F.image f.now cluster place };
+
+    ghost goes = { λ f g. F.goes f.now g.now };
+
+    ghost falls = { λ f g. F.falls f.now g.now };
+
+    fn open(&mut self, shape: &Shape, folder: &str) -> Result<(), StartFault> {
+        (**self).open(shape, folder)
+    }
+
+    fn send(&mut self, node: u32, frame: &[u8]) -> Result<(), SendFault> {
+        (**self).send(node, frame)
+    }
+
+    fn next(&mut self) -> Result<Event, Memory> {
+        (**self).next()
+    }
+
+    fn queued(&self) -> u32 {
+        (**self).queued()
+    }
+
+    fn close(&mut self) {
+        (**self).close()
+    }
+
+    ghost fresh_did_nothing = { λ a calls f t. F.fresh_did_nothing a.now calls f t };
+
+    ghost goes_nowhere = { λ a. F.goes_nowhere a.now };
+
+    ghost goes_on = { λ a b c p q. F.goes_on a.now b.now c.now p q };
+
+    ghost falls_as_it_goes = { λ a b p. F.falls_as_it_goes a.now b.now p };
+
+    ghost falls_on = { λ a b c p q. F.falls_on a.now b.now c.now p q };
+}
