@@ -60,3 +60,43 @@ impl Random for CountRandom {
         }
     }
 }
+
+/// A source that fails at each start, for tests of what is done where no random words can be had. Its words are zeros.
+#[derive(Clone, Copy, Debug, PartialEq, Eq)]
+pub struct FailRandom {
+    faults: u64,
+}
+
+impl FailRandom {
+    pub fn new() -> Self
+        ensures ahead { ⟦<FailRandom as Random>⟧.ahead result ≡ Some (λ place. 0) }
+        ensures faults { ⟦<FailRandom as Random>⟧.faults result ≡ 0 }
+    {
+        FailRandom { faults: 0 }
+    }
+}
+
+impl Random for FailRandom {
+    ghost use Rattle.std.specs.Prelude.{Some, ◌≡◌, IsErr, OnOk, OnErr};
+    ghost use Rattle.outside.specs.Causes.{HasCause};
+    ghost use Rattle.outside.specs.Words.{started};
+
+    ghost ahead = { λ _. Some (λ place. 0) };
+
+    ghost seeded = { λ number. Some (λ place. 0) };
+
+    ghost faults = { λ r. r.faults };
+
+    /// Fails always.
+    fn start(&mut self, asked: Option<u64>) -> Result<(), Failed>
+        ensures cause { HasCause self.old.faults self.new.faults result }
+        ensures always { IsErr result }
+    {
+        self.faults = self.faults.saturating_add(1);
+        Err(Failed)
+    }
+
+    fn word(&mut self) -> u64 {
+        0
+    }
+}
