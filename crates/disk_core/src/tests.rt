@@ -1,3 +1,6 @@
+ghost use Rattle.std.specs.Prelude.{◌≡◌, IsSome};
+ghost use Rattle.outside.specs.Causes.{Rose};
+
 use super::*;
 use outside::Failed;
 use std::alloc::Global;
@@ -77,29 +80,90 @@ fn the_write_that_blows_the_fuse_reaches_the_disk_below(rt: HostRuntime) -> Resu
 }
 
 // Opens the disk of node 1 and partition 2 through the trait.
-fn open_one<B: Bays>(rt: &impl Abort, bays: &mut B, folder: &str, size: u64) -> B::Disk {
-    bays.open(folder, 1, 2, size).expect(rt, "no disk")
+fn open_one<B: Bays>(rt: &impl Abort, bays: &mut B, folder: &str) -> B::Disk
+    ensures out { B.tells → IsSome (B.out bays.new 1 2) }
+{
+    match bays.open(folder, 1, 2, 100_000) {
+        Ok(disk) => disk,
+        Err(fault) => panic!(rt; "no disk: {fault}"),
+    }
 }
 
-#[test]
-fn a_disk_in_a_file_is_kept(rt: HostRuntime) -> Result<(), Fail> {
-    let folder = "disk_core_test_folder/inner";
-    let mut bays = FileBays::new(rt.alloc(), rt);
-    let mut disk = open_one(&rt, &mut bays, folder, 100_000);
-    assert_bytes(&rt, &mut disk, 99_996, [0, 0, 0, 0]);
+// A new disk is given some bytes and put home, and is found again with them. Another size is refused. `last` is the
+// answer to the fourth call of the new disk.
+fn assert_kept<B: Bays>(rt: &impl Abort, bays: &mut B, folder: &str, last: Result<(), Failed>)
+where
+    B::Disk: Drop,
+{
+    let mut disk = open_one(rt, bays, folder);
+    assert_bytes(rt, &mut disk, 99_996, [0, 0, 0, 0]);
     assert!(rt; disk.size() >= 8);
     assert_eq!(rt; write_synced(&mut disk, 4, &[1, 2, 3, 4]), Ok(()));
+    assert_eq!(rt; disk.sync(), last);
     disk.stopped();
     bays.give_back(1, 2, disk);
-    let mut again = open_one(&rt, &mut bays, folder, 100_000);
-    assert_bytes(&rt, &mut again, 4, [1, 2, 3, 4]);
-    bays.give_back(1, 2, again);
     assert!(rt;
         matches!(
             bays.open(folder, 1, 2, 5),
             Err(BayFault::OtherSize(100_000))
         )
     );
+    let mut again = open_one(rt, bays, folder);
+    assert_bytes(rt, &mut again, 4, [1, 2, 3, 4]);
+    assert_eq!(rt; again.sync(), Ok(()));
+    bays.give_back(1, 2, again);
+}
+
+// An opening fails, and raises the count of faults.
+fn assert_refused<B: Bays>(rt: &impl Abort, bays: &mut B, folder: &str)
+where
+    B::Disk: Drop,
+    ensures out { B.tells → B.out bays.new 1 2 ≡ B.out bays.old 1 2 }
+    ensures count { Rose (B.faults bays.old) (B.faults bays.new) }
+{
+    match bays.open(folder, 1, 2, 100_000) {
+        Err(BayFault::Failed) => {}
+        _ => panic!(rt; "not refused"),
+    }
+}
+
+// The fifth opening finds the disk out, and the sixth one is to fail.
+fn assert_counted<B: Bays>(rt: &impl Abort, bays: &mut B, folder: &str)
+where
+    B::Disk: Drop,
+{
+    let disk = open_one(rt, bays, folder);
+    assert_refused(rt, bays, folder);
+    bays.give_back(1, 2, disk);
+    assert_refused(rt, bays, folder);
+    let mut again = open_one(rt, bays, folder);
+    assert_bytes(rt, &mut again, 4, [1, 2, 3, 4]);
+    bays.give_back(1, 2, again);
+}
+
+#[test]
+fn a_disk_in_memory_is_kept(rt: HostRuntime) -> Result<(), Fail> {
+    let alloc = rt.alloc();
+    let mut bays = MemBays::new(alloc, Pick::Drop, vec![in alloc; 6]?);
+    assert_kept(&rt, &mut bays, "folder", Ok(()));
+    assert_counted(&rt, &mut bays, "folder");
+    Ok(())
+}
+
+#[test]
+fn a_disk_with_a_fuse_is_kept(rt: HostRuntime) -> Result<(), Fail> {
+    let alloc = rt.alloc();
+    let below = MemBays::new(alloc, Pick::Drop, vec![in alloc; 6]?);
+    let mut bays = FuseBays::new(below, 1, 2, 3);
+    assert_kept(&rt, &mut bays, "folder", Err(Failed));
+    assert_counted(&rt, &mut bays, "folder");
+    Ok(())
+}
+
+#[test]
+fn a_disk_in_a_file_is_kept(rt: HostRuntime) -> Result<(), Fail> {
+    let mut bays = FileBays::new(rt.alloc(), rt);
+    assert_kept(&rt, &mut bays, "disk_core_test_folder/inner", Ok(()));
     assert!(rt; fs::exists(&rt, "disk_core_test_folder/inner/n1p2")?);
     fs::remove_dir_all(&rt, "disk_core_test_folder")?;
     Ok(())
