@@ -1,17 +1,17 @@
 -- A new disk is given its first manifest.
-use Rattle.std.proofs.Common.{◌≡◌, ◌≢◌, ◌⊎◌, inl, inr, ⊎_elim, ℕ, ◌+◌, ◌*◌, ◌-◌, ◌<◌, ◌≤◌, ◌^◌, List, [], ◌∷◌, length, get_or, Option, Some, None, Bool, not, refl, sym, ◌∙◌, ap, subst, arith, add-zero, lit≤}
+use Rattle.std.proofs.Common.{◌≡◌, inl, inr, ⊎_elim, ℕ, ◌+◌, ◌<◌, ◌^◌, List, [], ◌∷◌, get_or, Option, Some, None, refl, sym, ◌∙◌, ap, subst, arith, lit≤}
 use Rattle.disk_core.specs.Content.{Content, ChangesBy, Only, Holds, Torn, range}
 use Rattle.disk_core.proofs.Ranges.{range-torn}
 use Rattle.disk_core.proofs.Changes.{widen, chain, image_from}
-use Rattle.gate_slots.specs.Cell.{Cell, cell_at, ReplacesCell}
+use Rattle.gate_slots.specs.Cell.{cell_at, ReplacesCell}
 use Rattle.gate_slots.specs.Slots.{CurrentSlot, IsLoaded}
 use Rattle.gate_slots.proofs.Gates.{byte_at}
 use Rattle.log_manifest.specs.declared.manifest.LogSettings.{LogSettings}
 use Rattle.log_manifest.specs.Manifests.{IsManifest, IsLive, manifest_text}
 use Rattle.msg_format.specs.declared.record.Record.{Record}
-use Rattle.part_log.specs.Segments.{place_of, ChangesIn}
-use Rattle.part_log.specs.Images.{HasLog, IsNew, StandsFor, OpensLog}
-use Rattle.part_log.specs.Log.{AreInRange, IsLog, IsShown, IsTable, LogTable, first_table, manifest_of}
+use Rattle.part_log.specs.Segments.{place_of}
+use Rattle.part_log.specs.Images.{HasLog, StandsFor, OpensLog}
+use Rattle.part_log.specs.Log.{AreInRange, IsLog, IsShown, IsTable, first_table, manifest_of}
 use Rattle.part_log.proofs.Fronts.{shown_stands, value_same}
 use Rattle.part_log.proofs.Segments.{write_first, write_cell, writes_twice}
 

@@ -1,5 +1,5 @@
 -- The records in front of each segment.
-use Rattle.std.proofs.Common.{◌≡◌, ◌≢◌, ◌⊎◌, inl, inr, ⊎_elim, ℕ, ◌+◌, ◌*◌, ◌-◌, ◌<◌, ◌≤◌, max, List, [], ◌∷◌, ◌++◌, length, get_or, take, drop, Option, Some, refl, sym, ◌∙◌, ap, subst, arith, append_assoc}
+use Rattle.std.proofs.Common.{◌≡◌, ℕ, ◌≤◌, max, List, [], ◌∷◌, ◌++◌, get_or, take, drop, Option, refl, sym, ◌∙◌, ap, subst, arith}
 use Rattle.std.proofs.lemmas.List.{take-take}
 use Rattle.disk_core.specs.Content.{range}
 use Rattle.disk_core.proofs.Ranges.{get_or-range}
@@ -7,12 +7,11 @@ use Rattle.gate_slots.specs.Cell.{Cell, cell_at}
 use Rattle.gate_slots.specs.Slots.{CurrentSlot, IsLoaded}
 use Rattle.gate_slots.proofs.OtherSlot.{cell_same}
 use Rattle.msg_format.specs.declared.record.Record.{Record}
-use Rattle.log_manifest.specs.Manifests.{manifest_text}
 use Rattle.part_log.specs.declared.segment.SegmentInfo.{SegmentInfo}
-use Rattle.part_log.specs.Records.{laid, AreRecords, HoldsRecords, RisesFrom, next_after, Placed, placed_from, records_of}
+use Rattle.part_log.specs.Records.{RisesFrom, next_after, Placed, placed_from, records_of}
 use Rattle.part_log.specs.Segments.{place_of, lives_of, ChangesIn}
-use Rattle.part_log.specs.Images.{AllHold, joined, HasManifest, HasLog, StandsFor}
-use Rattle.part_log.specs.Log.{LogTable, manifest_of, AllFit, IsTable, IsFront, AllFront, AllSized, placed_in, IsShown, IsLog}
+use Rattle.part_log.specs.Images.{AllHold, joined, HasLog}
+use Rattle.part_log.specs.Log.{LogTable, manifest_of, AllFit, IsTable, IsFront, AllFront, AllSized, placed_in, IsShown}
 use Rattle.part_log.proofs.Records.{holds_records, records_of-append, records_of-placed}
 use Rattle.part_log.proofs.Manifests.{Without, lower_floor}
 

@@ -1,24 +1,22 @@
 -- A record that is put behind the last one.
-use Rattle.std.proofs.Common.{◌≡◌, ◌≢◌, ◌⊎◌, inl, inr, ⊎_elim, ℕ, ◌+◌, ◌*◌, ◌-◌, ◌<◌, ◌≤◌, max, List, [], ◌∷◌, ◌++◌, length, get_or, take, drop, Option, Some, refl, sym, ◌∙◌, ap, subst, arith, append_assoc, ◌^◌, length-append, add-zero}
+use Rattle.std.proofs.Common.{◌≡◌, ◌≢◌, inl, inr, ⊎_elim, ℕ, ◌+◌, ◌<◌, ◌≤◌, max, List, [], ◌∷◌, ◌++◌, length, get_or, take, drop, Some, refl, sym, ◌∙◌, ap, subst, arith, append_assoc, ◌^◌, length-append}
 use Rattle.std.proofs.lemmas.Bool.{cases_eq}
 use Rattle.std.proofs.lemmas.List.{append-nil, take_at, drop_more, get_or_at, take-take}
-use Rattle.disk_core.specs.Content.{Content, ChangesBy, Only, IsSettled, Torn, range}
+use Rattle.disk_core.specs.Content.{Content, ChangesBy, Only, range}
 use Rattle.disk_core.proofs.Ranges.{range-split, range-torn, get_or-range}
 use Rattle.disk_core.proofs.Changes.{widen, image_from}
 use Rattle.gate_slots.specs.Gate.{OpensGate}
-use Rattle.gate_slots.specs.Cell.{cell_at}
-use Rattle.gate_slots.specs.Slots.{IsLoaded}
 use Rattle.log_manifest.specs.declared.manifest.Live.{Live}
 use Rattle.log_manifest.specs.Manifests.{IsManifest, manifest_text}
 use Rattle.msg_format.specs.declared.record.Record.{Record}
 use Rattle.msg_format.specs.Records.{record_text, IsRecord, lsn_of}
 use Rattle.part_log.specs.declared.segment.SegmentInfo.{SegmentInfo}
-use Rattle.part_log.specs.Records.{laid, AreRecords, RisesFrom, next_after, first_lsn, Placed, placed_from, records_of}
+use Rattle.part_log.specs.Records.{laid, RisesFrom, next_after, first_lsn, Placed, placed_from, records_of}
 use Rattle.part_log.specs.Segments.{place_of, lives_of, last_segment, last_used, with_more, ChangesIn}
-use Rattle.part_log.specs.Images.{joined, HasLog, StandsFor, PutsLast}
+use Rattle.part_log.specs.Images.{joined, HasLog, PutsLast}
 use Rattle.part_log.specs.Log.{LogTable, manifest_of, AllFit, IsTable, IsFront, AllFront, AllSized, AllFirst, placed_in, IsShown, IsLog, grown}
-use Rattle.part_log.proofs.Records.{laid-one, length-laid-one, AreRecords-one, RisesFrom-one, next_after-one, first_lsn-one, placed_from-one, records_of-append}
-use Rattle.part_log.proofs.Segments.{segments_apart, write_in}
+use Rattle.part_log.proofs.Records.{laid-one, length-laid-one, AreRecords-one, RisesFrom-one, next_after-one, first_lsn-one, placed_from-one}
+use Rattle.part_log.proofs.Segments.{write_in}
 use Rattle.part_log.proofs.Manifests.{Without, AllApart, named_apart, higher_floor, length-lives_of}
 use Rattle.part_log.proofs.Fronts.{front_same, shown_stands, value_same, loaded_same, its_records}
 

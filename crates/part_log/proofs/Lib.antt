@@ -16,3 +16,5 @@ pub mod Reopening
 pub mod Formatting
 pub mod Visible
 pub mod Places
+pub mod Blanks
+pub mod Wholes

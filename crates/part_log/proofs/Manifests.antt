@@ -1,10 +1,8 @@
 -- What a manifest says of the segments that it names.
-use Rattle.std.proofs.Common.{◌≡◌, ◌≢◌, ◌⊎◌, inl, inr, ℕ, zero, suc, ◌+◌, ◌<◌, ◌≤◌, ◌^◌, List, [], ◌∷◌, ◌++◌, length, map, get_or, All, AllPairs, Bool, true, false, ◌==◌, ◌||◌, refl, sym, ◌∙◌, ap, subst, arith, length-append}
-use Rattle.log_manifest.specs.declared.manifest.Live.{Live}
-use Rattle.log_manifest.specs.declared.manifest.Manifest.{Manifest}
-use Rattle.log_manifest.specs.Manifests.{IsManifest, IsLive, manifest_text, segments_of, generations_of, AreApart}
+use Rattle.std.proofs.Common.{◌≡◌, ◌≢◌, ℕ, suc, ◌<◌, ◌≤◌, ◌^◌, List, [], ◌∷◌, length, get_or, refl, ap, arith}
+use Rattle.log_manifest.specs.Manifests.{IsManifest, segments_of, AreApart}
 use Rattle.part_log.specs.declared.segment.SegmentInfo.{SegmentInfo}
-use Rattle.part_log.specs.Segments.{is_among, lives_of}
+use Rattle.part_log.specs.Segments.{lives_of}
 use Rattle.part_log.specs.Log.{LogTable, manifest_of}
 
 -- this segment is none of these

@@ -1,6 +1,6 @@
 -- A roll: a free segment is named by the manifest.
-use Rattle.std.proofs.Common.{◌≡◌, inl, ℕ, ◌+◌, ◌-◌, ◌<◌, ◌≤◌, ◌^◌, List, [], ◌∷◌, Some, not, Bool, false, refl, sym, ◌∙◌, ap, subst, arith}
-use Rattle.disk_core.specs.Content.{Content, ChangesBy, Only, Holds, Torn, range}
+use Rattle.std.proofs.Common.{◌≡◌, inl, ℕ, ◌+◌, ◌-◌, ◌<◌, ◌≤◌, ◌^◌, List, [], ◌∷◌, Some, not, sym, ◌∙◌, ap, subst, arith}
+use Rattle.disk_core.specs.Content.{Content, ChangesBy, Only, Holds, Torn}
 use Rattle.disk_core.proofs.Ranges.{range-torn}
 use Rattle.gate_slots.specs.Cell.{cell_at, ReplacesCell}
 use Rattle.gate_slots.specs.Slots.{CurrentSlot, IsLoaded}

@@ -1,25 +1,24 @@
 -- A segment more, in which no record stands yet.
-use Rattle.std.proofs.Common.{◌≡◌, ◌≢◌, ◌⊎◌, inl, inr, ⊎_elim, ℕ, zero, suc, ◌+◌, ◌*◌, ◌-◌, ◌<◌, ◌≤◌, ◌^◌, max, List, [], ◌∷◌, ◌++◌, length, map, get_or, take, drop, All, AllPairs, Option, Some, refl, sym, ◌∙◌, ap, subst, arith, append_assoc, length-append, add-zero}
-use Rattle.std.proofs.lemmas.List.{append-nil, map-append, get_or-map}
+use Rattle.std.proofs.Common.{◌≡◌, ◌≢◌, inl, inr, ⊎_elim, ℕ, zero, suc, ◌+◌, ◌<◌, ◌≤◌, ◌^◌, max, List, [], ◌∷◌, ◌++◌, length, get_or, All, Some, refl, sym, ◌∙◌, ap, subst, arith, length-append, add-zero}
+use Rattle.std.proofs.lemmas.List.{map-append}
 use Rattle.std.proofs.lemmas.List.Elements.{All-push}
 use Rattle.std.proofs.lemmas.List.Quantifiers.{all_pairs_push}
-use Rattle.disk_core.specs.Content.{Content, ChangesBy, Only, IsSettled, Holds, Torn, range}
+use Rattle.disk_core.specs.Content.{Content, ChangesBy, Only, Holds, Torn, range}
 use Rattle.disk_core.proofs.Ranges.{range-torn}
 use Rattle.disk_core.proofs.Changes.{widen, chain, image_from}
-use Rattle.gate_slots.specs.Gate.{open_gate}
-use Rattle.gate_slots.specs.Cell.{Cell, cell_at, ReplacesCell}
+use Rattle.gate_slots.specs.Cell.{cell_at, ReplacesCell}
 use Rattle.gate_slots.specs.Slots.{CurrentSlot, IsLoaded}
 use Rattle.gate_slots.proofs.Gates.{byte_at}
 use Rattle.log_manifest.specs.declared.manifest.Live.{Live}
 use Rattle.log_manifest.specs.Manifests.{IsManifest, IsLive, manifest_text, segments_of, generations_of, AreApart}
 use Rattle.msg_format.specs.declared.record.Record.{Record}
 use Rattle.part_log.specs.declared.segment.SegmentInfo.{SegmentInfo}
-use Rattle.part_log.specs.Records.{laid, AreRecords, RisesFrom, next_after, first_lsn, Placed, placed_from, records_of}
-use Rattle.part_log.specs.Segments.{place_of, lives_of, ChangesIn}
-use Rattle.part_log.specs.Images.{joined, HasLog, StandsFor, KeepsLog}
+use Rattle.part_log.specs.Records.{RisesFrom, next_after, first_lsn, Placed, placed_from, records_of}
+use Rattle.part_log.specs.Segments.{place_of, lives_of}
+use Rattle.part_log.specs.Images.{joined, HasLog, KeepsLog}
 use Rattle.part_log.specs.Log.{LogTable, manifest_of, AllFit, IsTable, IsFront, AllFront, AllSized, AllFirst, placed_in, IsShown, IsLog, new_info, with_segment, rolled_table}
 use Rattle.part_log.proofs.Segments.{write_in, write_cell, writes_twice}
-use Rattle.part_log.proofs.Manifests.{Without, AllApart, named_apart, lower_floor, length-lives_of}
+use Rattle.part_log.proofs.Manifests.{Without, length-lives_of}
 use Rattle.part_log.proofs.Fronts.{fronts_stay, shown_stands, value_same, loaded_same, its_records}
 
 pub lives_of-append : (xs ys : List SegmentInfo) → lives_of (xs ++ ys) ≡ lives_of xs ++ lives_of ys

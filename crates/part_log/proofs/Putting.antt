@@ -1,17 +1,16 @@
 -- A record that is put last, as the code does it.
-use Rattle.std.proofs.Common.{◌≡◌, ◌≢◌, inl, inr, ⊎_elim, ℕ, zero, suc, ◌+◌, ◌*◌, ◌-◌, ◌<◌, ◌≤◌, ◌^◌, List, [], ◌∷◌, ◌++◌, length, get_or, set, All, Bool, true, false, refl, sym, ◌∙◌, ap, subst, arith, length-append}
+use Rattle.std.proofs.Common.{◌≡◌, ◌≢◌, inl, ℕ, suc, ◌+◌, ◌-◌, ◌<◌, ◌≤◌, ◌^◌, List, [], ◌∷◌, ◌++◌, length, get_or, set, All, refl, ◌∙◌, ap, subst, arith}
 use Rattle.disk_core.specs.Content.{Content, ChangesBy, Only, Torn}
 use Rattle.disk_core.proofs.Changes.{chain, widen, image_from}
 use Rattle.gate_slots.specs.Gate.{IsShut, OpensGate}
-use Rattle.log_manifest.specs.declared.manifest.Live.{Live}
 use Rattle.log_manifest.specs.declared.manifest.Manifest.{Manifest}
 use Rattle.log_manifest.specs.Manifests.{IsLive}
 use Rattle.msg_format.specs.declared.record.Record.{Record}
-use Rattle.msg_format.specs.Records.{IsRecord, record_text, record_size}
+use Rattle.msg_format.specs.Records.{record_text, record_size}
 use Rattle.part_log.specs.declared.segment.SegmentInfo.{SegmentInfo}
 use Rattle.part_log.specs.Records.{Placed, records_of}
 use Rattle.part_log.specs.Segments.{place_of, last_segment, last_used, lives_of, with_more, ChangesIn}
-use Rattle.part_log.specs.Images.{KeepsLog, PutsLast, StandsFor}
+use Rattle.part_log.specs.Images.{KeepsLog, PutsLast}
 use Rattle.part_log.specs.Log.{LogTable, IsTable, IsLog, AllFront, Follows, next_place, grown, disk_size}
 use Rattle.part_log.proofs.Texts.{size_of_text, long_text}
 use Rattle.part_log.proofs.Manifests.{length-lives_of}

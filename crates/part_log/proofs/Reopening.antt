@@ -1,5 +1,5 @@
 -- A log that was read from its disk.
-use Rattle.std.proofs.Common.{◌≡◌, ℕ, ◌+◌, ◌*◌, ◌<◌, ◌≤◌, ◌^◌, max, List, Some, All, Bool, if◌then◌else◌, get_or, refl, sym, ◌∙◌, ap, subst, arith, mul-le-mul_right}
+use Rattle.std.proofs.Common.{◌≡◌, ℕ, ◌+◌, ◌*◌, ◌<◌, ◌≤◌, ◌^◌, max, List, Some, All, Bool, if◌then◌else◌, get_or, sym, ◌∙◌, ap, subst, arith, mul-le-mul_right}
 use Rattle.disk_core.specs.Content.{Content, ChangesBy, Only, Same, range}
 use Rattle.disk_core.proofs.Changes.{chain, widen, same_image}
 use Rattle.gate_slots.specs.Cell.{cell_at, current_place}
@@ -11,7 +11,7 @@ use Rattle.log_manifest.specs.Manifests.{IsManifest, manifest_text}
 use Rattle.msg_format.specs.declared.record.Record.{Record}
 use Rattle.part_log.specs.declared.segment.Found.{Found}
 use Rattle.part_log.specs.declared.segment.SegmentInfo.{SegmentInfo}
-use Rattle.part_log.specs.Records.{next_after, Placed, records_of}
+use Rattle.part_log.specs.Records.{next_after, records_of}
 use Rattle.part_log.specs.Segments.{place_of, lives_of, with_firsts}
 use Rattle.part_log.specs.Images.{joined, HasLog, HasBadRecord, EndBadly, OpensLog, manifest_gate}
 use Rattle.part_log.specs.Log.{LogTable, AreInRange, AllFit, IsLog, IsShown, IsTable, manifest_of, placed_in, disk_size}

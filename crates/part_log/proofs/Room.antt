@@ -1,5 +1,5 @@
 -- A segment more, for a log that isn't packed.
-use Rattle.std.proofs.Common.{◌≡◌, inl, inr, ⊎_elim, ℕ, ◌+◌, ◌*◌, ◌<◌, ◌≤◌, ◌^◌, List, [], ◌∷◌, ◌++◌, length, Bool, true, false, ◌||◌, ◌&&◌, not, nat_le, nat_lt, refl, sym, ◌∙◌, ap, subst, arith, Result, Ok, Err, IfOk, if◌then◌else◌, mul-le-mul_right}
+use Rattle.std.proofs.Common.{◌≡◌, inl, ℕ, ◌+◌, ◌*◌, ◌<◌, ◌≤◌, ◌^◌, List, [], ◌∷◌, ◌++◌, length, Bool, true, false, ◌||◌, ◌&&◌, not, nat_le, nat_lt, refl, sym, ◌∙◌, ap, subst, arith, Result, Ok, Err, IfOk, if◌then◌else◌, mul-le-mul_right}
 use Rattle.std.proofs.lemmas.Bool.Decides.{nat_tests}
 use Rattle.disk_core.specs.Content.{Content, ChangesBy}
 use Rattle.disk_core.proofs.Changes.{no_change}
@@ -8,12 +8,11 @@ use Rattle.msg_format.specs.declared.record.Record.{Record}
 use Rattle.log_manifest.specs.declared.manifest.LogSettings.{LogSettings}
 use Rattle.log_manifest.specs.Manifests.{IsManifest, manifest_text}
 use Rattle.part_log.specs.declared.segment.SegmentInfo.{SegmentInfo}
-use Rattle.part_log.specs.Segments.{place_of, is_among, free_from, lives_of, last_segment, last_used, ChangesIn}
+use Rattle.part_log.specs.Segments.{place_of, is_among, last_segment, last_used, ChangesIn}
 use Rattle.part_log.specs.Log.{LogTable, IsTable, IsRolling, manifest_of, is_worn, is_packed, least_free, fits_last, with_segment, new_info, disk_size, rolled_table, roomy_table, target_of, is_full, IsLog}
 use Rattle.part_log.specs.Records.{Placed, records_of}
 use Rattle.part_log.specs.Images.{KeepsLog, HasLog, PutsLast}
 use Rattle.part_log.proofs.Texts.{size_of_manifest}
-use Rattle.part_log.proofs.Manifests.{length-lives_of}
 use Rattle.part_log.proofs.NewSegment.{still_manifest, rolled_good}
 use Rattle.part_log.proofs.Segments.{no_write}
 use Rattle.part_log.proofs.Fronts.{its_records, shown_stands}

@@ -1,14 +1,14 @@
 -- Records that were read one after the other.
-use Rattle.std.proofs.Common.{◌≡◌, ◌≢◌, inl, inr, ℕ, ◌+◌, ◌-◌, ◌<◌, ◌≤◌, List, [], ◌∷◌, ◌++◌, length, take, drop, refl, sym, ◌∙◌, ap, subst, arith, append_assoc, length-append, Err, IsErrOf}
+use Rattle.std.proofs.Common.{◌≡◌, ℕ, ◌+◌, ◌-◌, ◌≤◌, List, [], ◌∷◌, ◌++◌, length, take, drop, refl, sym, ◌∙◌, ap, arith, append_assoc, Err, IsErrOf}
 use Rattle.std.proofs.lemmas.List.{append-nil, take_at, take-take}
 use Rattle.disk_core.specs.Content.{Content, ChangesBy, Only, Same, range}
 use Rattle.disk_core.proofs.Ranges.{range-split}
 use Rattle.disk_core.proofs.Changes.{chain, same_image, no_change}
 use Rattle.msg_format.specs.declared.record.Record.{Record}
-use Rattle.msg_format.specs.Records.{BeginsWith, IsRecord, head_of, lsn_of, record_size, record_text}
+use Rattle.msg_format.specs.Records.{head_of, record_text}
 use Rattle.part_log.specs.declared.fault.OpenFault.TheVariants.{Damaged}
 use Rattle.part_log.specs.declared.segment.Found.{Found}
-use Rattle.part_log.specs.Records.{laid, AreRecords, EndsHere, RisesFrom, next_after, Placed, placed_from}
+use Rattle.part_log.specs.Records.{laid, Placed, placed_from}
 use Rattle.part_log.specs.Images.{EndsBadly}
 use Rattle.part_log.specs.Scan.{found_of, IsBroken, IsRead, ReadsOn}
 use Rattle.part_log.proofs.Texts.{size_of_text}

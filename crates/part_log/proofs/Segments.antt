@@ -1,8 +1,8 @@
 -- Segments of a disk, and writes in one of them.
-use Rattle.std.proofs.Common.{◌≡◌, ◌≢◌, ◌⊎◌, inl, inr, ⊎_elim, ℕ, ◌+◌, ◌*◌, ◌<◌, ◌≤◌, List, [], ◌∷◌, ◌++◌, length, refl, sym, ◌∙◌, ap, subst, arith, add-zero, mul-le-mul_right}
+use Rattle.std.proofs.Common.{◌≡◌, ◌≢◌, ◌⊎◌, inl, inr, ⊎_elim, ℕ, ◌+◌, ◌*◌, ◌<◌, ◌≤◌, List, refl, sym, ◌∙◌, subst, arith, add-zero, mul-le-mul_right}
 use Rattle.std.proofs.lemmas.Bool.{cases_lt}
-use Rattle.disk_core.specs.Content.{range, Torn}
-use Rattle.disk_core.proofs.Ranges.{range-torn, torn_within}
+use Rattle.disk_core.specs.Content.{Torn}
+use Rattle.disk_core.proofs.Ranges.{range-torn}
 use Rattle.part_log.specs.Segments.{place_of, ChangesIn}
 
 pub segments_apart : (segment i f : ℕ) → i ≢ f → (place_of segment i + segment ≤ place_of segment f) ⊎ (place_of segment f + segment ≤ place_of segment i)

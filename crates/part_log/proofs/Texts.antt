@@ -1,5 +1,5 @@
 -- What a record's bytes are like.
-use Rattle.std.proofs.Common.{◌≡◌, ◌≢◌, ℕ, ◌+◌, ◌<◌, ◌≤◌, List, [], ◌∷◌, ◌++◌, length, get_or, refl, sym, ◌∙◌, ap, arith, length-append}
+use Rattle.std.proofs.Common.{◌≡◌, ℕ, ◌≤◌, List, [], ◌++◌, length, get_or, refl, ap, arith}
 use Rattle.log_manifest.specs.declared.manifest.Manifest.{Manifest}
 use Rattle.log_manifest.specs.Manifests.{IsManifest, manifest_text, manifest_size}
 use Rattle.log_manifest.proofs.Whole.{manifests_apart, length-manifest_text}

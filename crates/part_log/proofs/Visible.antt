@@ -1,7 +1,6 @@
 -- A record of the log, at its place.
-use Rattle.std.proofs.Common.{◌≡◌, ◌≢◌, ◌⊎◌, inl, inr, ⊎_elim, ℕ, ◌+◌, ◌*◌, ◌-◌, ◌<◌, ◌≤◌, ◌%◌, ◌/◌, List, [], ◌∷◌, ◌++◌, length, take, drop, suc, refl, sym, ◌∙◌, ap, subst, arith, length-append, All}
-use Rattle.std.proofs.lemmas.Nat.{mod-mul-add}
-use Rattle.std.proofs.lemmas.List.{take_at, drop_at, take-take, drop-drop}
+use Rattle.std.proofs.Common.{◌≡◌, ◌⊎◌, inl, inr, ⊎_elim, ℕ, ◌+◌, ◌-◌, ◌≤◌, List, [], ◌∷◌, ◌++◌, length, take, suc, refl, sym, ◌∙◌, ap, subst, arith, length-append, All}
+use Rattle.std.proofs.lemmas.List.{take_at, drop_at, drop-drop}
 use Rattle.disk_core.specs.Content.{Content, ChangesBy, Same, range}
 use Rattle.disk_core.proofs.Ranges.{range-range, range-split}
 use Rattle.disk_core.proofs.Changes.{same_image}
@@ -13,7 +12,7 @@ use Rattle.msg_format.specs.Records.{BeginsWith, IsRecord, record_text}
 use Rattle.part_log.specs.declared.segment.SegmentInfo.{SegmentInfo}
 use Rattle.part_log.specs.Records.{laid, AreRecords, Placed, placed_from, IsPlaced}
 use Rattle.part_log.specs.Segments.{place_of, lives_of}
-use Rattle.part_log.specs.Log.{LogTable, IsTable, IsLog, AllFit, AllSized, AllFront, placed_in}
+use Rattle.part_log.specs.Log.{LogTable, IsTable, IsLog, AllFit, AllSized, AllFront, placed_in, IsVisible}
 
 placed_either : (p : Placed) (xs ys : List Placed) → IsPlaced p (xs ++ ys) → IsPlaced p xs ⊎ IsPlaced p ys
 placed_either p [] ys there = inr there
@@ -51,39 +50,29 @@ in_part place (r ∷ part) p good (inr there) =
       good = rest.good;
     }
 
--- a record that can be read: it stands in a segment
-pub record IsVisible (segment segments : ℕ) (bytes : List ℕ) (p : Placed) : Type 0 where
-  pub number : ℕ
-  pub small : number < segments
-  pub offset : ℕ
-  pub at : p.place ≡ 4096 + number * segment + offset
-  pub fits : offset + length (record_text p.entry) ≤ segment
-  pub here : range p.place (length (record_text p.entry)) bytes ≡ record_text p.entry
-  pub good : IsRecord p.entry
-
-in_segments : (segment : ℕ) (manifest : Manifest) (infos : List SegmentInfo) (parts : List (List Record)) (c : List ℕ) (p : Placed) → All (IsLive manifest) (lives_of infos) → AllFit segment infos → AllSized infos parts → AllFront segment infos parts c
-    → IsPlaced p (placed_in segment infos parts) → IsVisible segment manifest.settings.segments c p
-in_segments segment manifest [] parts c p each fit sized fronts there = absurd there
-in_segments segment manifest (info ∷ infos) [] c p each fit sized fronts there = absurd there
-in_segments segment manifest (info ∷ infos) (part ∷ parts) c p each fit sized fronts there = ⊎_elim
-    (λ (here : IsPlaced p (placed_from (place_of segment info.segment) part)).
-    let stands = in_part (place_of segment info.segment) part p sized.1 here in
+in_segments : (manifest : Manifest) (infos : List SegmentInfo) (parts : List (List Record)) (c : List ℕ) (p : Placed) → All (IsLive manifest) (lives_of infos) → AllFit manifest.settings.segment infos → AllSized infos parts → AllFront manifest.settings.segment infos parts c
+    → IsPlaced p (placed_in manifest.settings.segment infos parts) → IsVisible manifest.settings c p
+in_segments manifest [] parts c p each fit sized fronts there = absurd there
+in_segments manifest (info ∷ infos) [] c p each fit sized fronts there = absurd there
+in_segments manifest (info ∷ infos) (part ∷ parts) c p each fit sized fronts there = ⊎_elim
+    (λ (here : IsPlaced p (placed_from (place_of manifest.settings.segment info.segment) part)).
+    let stands = in_part (place_of manifest.settings.segment info.segment) part p sized.1 here in
     let m : ℕ = length (record_text p.entry) in
     let inside : stands.offset + m ≤ info.used = omega (arith, stands.fits, sized.0) in
-    let its : IsVisible segment manifest.settings.segments c p = record {
+    let its : IsVisible manifest.settings c p = record {
       number = info.segment;
       small = (each 0 (record { segment = 0; generation = 0 }) (omega arith)).segment;
       offset = stands.offset;
       at = stands.at;
       fits = omega (arith, inside, fit.0);
-      here = ap (λ (k : ℕ). range k m c) stands.at ∙ sym (range-range (place_of segment info.segment) info.used stands.offset m c inside) ∙ ap (range stands.offset m) fronts.0.front ∙ stands.here;
+      here = ap (λ (k : ℕ). range k m c) stands.at ∙ sym (range-range (place_of manifest.settings.segment info.segment) info.used stands.offset m c inside) ∙ ap (range stands.offset m) fronts.0.front ∙ stands.here;
       good = stands.good;
     } in its)
-    (λ (later : IsPlaced p (placed_in segment infos parts)). in_segments segment manifest infos parts c p (λ k d lt. each (suc k) d (omega (arith, lt))) fit.1 sized.2 fronts.1 later)
-    (placed_either p (placed_from (place_of segment info.segment) part) (placed_in segment infos parts) there)
+    (λ (later : IsPlaced p (placed_in manifest.settings.segment infos parts)). in_segments manifest infos parts c p (λ k d lt. each (suc k) d (omega (arith, lt))) fit.1 sized.2 fronts.1 later)
+    (placed_either p (placed_from (place_of manifest.settings.segment info.segment) part) (placed_in manifest.settings.segment infos parts) there)
 
-pub visible : (table : LogTable) (content : Content) (placed : List Placed) (p : Placed) → IsTable table → IsLog table content placed → IsPlaced p placed → IsVisible table.settings.segment table.settings.segments content.seen p
-visible table content placed p good log there = in_segments table.settings.segment _ table.segments log.parts content.seen p good.manifest.each good.fit log.sized (log.shown content.seen content.sees).fronts (subst (λ (l : List Placed). IsPlaced p l) log.all there)
+pub visible : (table : LogTable) (content : Content) (placed : List Placed) (p : Placed) → IsTable table → IsLog table content placed → IsPlaced p placed → IsVisible table.settings content.seen p
+visible table content placed p good log there = in_segments _ table.segments log.parts content.seen p good.manifest.each good.fit log.sized (log.shown content.seen content.sees).fronts (subst (λ (l : List Placed). IsPlaced p l) log.all there)
 
 -- the bytes from there on begin with it
 pub begins_there : (place left : ℕ) (bytes : List ℕ) (entry : Record) → length (record_text entry) ≤ left → range place (length (record_text entry)) bytes ≡ record_text entry → IsRecord entry → BeginsWith (range place left bytes) entry

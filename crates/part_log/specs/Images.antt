@@ -1,5 +1,5 @@
 -- What the bytes of a disk stand for: a list of records and an end lsn.
-use Rattle.std.specs.Prelude.{◌≡◌, ◌⊎◌, ℕ, ◌+◌, ◌≤◌, max, List, [], ◌∷◌, ◌++◌, Option, Some, None, length, Bool, if◌then◌else◌}
+use Rattle.std.specs.Prelude.{◌≡◌, ◌⊎◌, ℕ, ◌+◌, ◌≤◌, max, List, [], ◌∷◌, ◌++◌, Some, None, length, if◌then◌else◌}
 use Rattle.disk_core.specs.Content.{range}
 use Rattle.gate_slots.specs.Cell.{cell_at}
 use Rattle.log_manifest.specs.declared.manifest.LogSettings.{LogSettings}

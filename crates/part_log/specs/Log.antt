@@ -1,5 +1,5 @@
 -- A log between two calls.
-use Rattle.std.specs.Prelude.{◌≡◌, ◌≢◌, ◌⊎◌, ℕ, ◌+◌, ◌*◌, ◌<◌, ◌≤◌, ◌^◌, max, List, [], ◌∷◌, ◌++◌, Some, length, slice_index, Bool, nat_le, nat_lt, if◌then◌else◌, ◌||◌, ◌&&◌, not}
+use Rattle.std.specs.Prelude.{◌≡◌, ◌≢◌, ℕ, ◌+◌, ◌<◌, ◌≤◌, ◌^◌, max, List, [], ◌∷◌, ◌++◌, Some, length, slice_index, Bool, nat_le, nat_lt, if◌then◌else◌, ◌||◌, ◌&&◌, not}
 use Rattle.disk_core.specs.Content.{Content, IsSettled, range}
 use Rattle.gate_slots.specs.Gate.{open_gate}
 use Rattle.gate_slots.specs.Cell.{cell_at}
@@ -10,7 +10,7 @@ use Rattle.log_manifest.specs.Manifests.{IsManifest, manifest_text}
 use Rattle.msg_format.specs.declared.record.Record.{Record}
 use Rattle.msg_format.specs.Records.{IsRecord, lsn_of, record_text}
 use Rattle.part_log.specs.declared.segment.SegmentInfo.{SegmentInfo}
-use Rattle.part_log.specs.Records.{laid, AreRecords, RisesFrom, next_after, first_lsn, Placed, placed_from}
+use Rattle.part_log.specs.Records.{laid, AreRecords, RisesFrom, next_after, first_lsn, Placed, placed_from, IsPlaced}
 use Rattle.part_log.specs.Segments.{place_of, lives_of, is_among, free_from, last_segment, last_used, with_more}
 use Rattle.part_log.specs.Images.{joined}
 
@@ -118,6 +118,10 @@ fits_last table size = nat_le (last_used table.segments + size + 1) table.settin
 abbrev pub is_packed : LogTable → Bool
 is_packed table = nat_le table.settings.segments (length table.segments + 1)
 
+-- no segment can be added: none is free but the kept one, or the log is worn
+abbrev pub takes_no_segment : LogTable → Bool
+takes_no_segment table = is_packed table || is_worn table
+
 -- the free segment with the least number
 abbrev pub least_free : LogTable → ℕ
 least_free table = free_from table.settings.segments 0 table.segments
@@ -172,3 +176,20 @@ next_place table = place_of table.settings.segment (last_segment table.segments)
 -- the table of a new log
 abbrev pub first_table : LogSettings → CurrentSlot → LogTable
 first_table settings slots = record { settings = settings; segments = record { segment = 0; generation = 0; used = 0; first = 0 } ∷ []; next_generation = 1; end = 0; slots = slots }
+
+-- A record that can be read: it stands whole in one of the segments.
+pub record IsVisible (settings : LogSettings) (bytes : List ℕ) (p : Placed) : Type 0 where
+  pub number : ℕ
+  pub small : number < settings.segments
+  pub offset : ℕ
+  pub at : p.place ≡ place_of settings.segment number + offset
+  pub fits : offset + length (record_text p.entry) ≤ settings.segment
+  pub here : range p.place (length (record_text p.entry)) bytes ≡ record_text p.entry
+  pub good : IsRecord p.entry
+
+-- One of the log's records stands at this place.
+pub record HasRecordAt (table : LogTable) (content : Content) (place : ℕ) : Type 0 where
+  pub placed : List Placed
+  pub log : IsLog table content placed
+  pub entry : Record
+  pub there : IsPlaced (record { entry = entry; place = place }) placed

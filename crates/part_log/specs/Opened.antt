@@ -1,7 +1,6 @@
 -- What an opening makes of a disk.
-use Rattle.std.specs.Prelude.{◌≡◌, ℕ, List, [], ◌∷◌}
+use Rattle.std.specs.Prelude.{◌≡◌, ℕ, List}
 use Rattle.disk_core.specs.Content.{Content}
-use Rattle.gate_slots.specs.Slots.{CurrentSlot}
 use Rattle.log_manifest.specs.declared.manifest.LogSettings.{LogSettings}
 use Rattle.part_log.specs.declared.opening.Opened.{Opened}
 use Rattle.part_log.specs.Records.{Placed, records_of}

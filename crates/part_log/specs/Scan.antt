@@ -1,5 +1,5 @@
 -- What is found while a segment is read.
-use Rattle.std.specs.Prelude.{◌≡◌, ℕ, ◌+◌, ◌≤◌, List, [], ◌∷◌, ◌++◌, length, take}
+use Rattle.std.specs.Prelude.{◌≡◌, ℕ, ◌+◌, ◌≤◌, List, [], ◌∷◌, ◌++◌, length}
 use Rattle.disk_core.specs.Content.{range}
 use Rattle.msg_format.specs.declared.record.Record.{Record}
 use Rattle.msg_format.specs.Records.{BeginsWith, head_of, record_size, lsn_of}

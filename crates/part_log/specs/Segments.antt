@@ -1,5 +1,5 @@
 -- Where a log's bytes stand on its disk, and which of them stay.
-use Rattle.std.specs.Prelude.{◌≡◌, ◌≢◌, ℕ, zero, suc, ◌+◌, ◌*◌, ◌≤◌, List, [], ◌∷◌, ◌++◌, length, Bool, ◌==◌, map, if◌then◌else◌}
+use Rattle.std.specs.Prelude.{◌≡◌, ◌≢◌, ℕ, zero, suc, ◌+◌, ◌*◌, List, [], ◌∷◌, length, Bool, ◌==◌, map, if◌then◌else◌}
 use Rattle.std.specs.List.{list_any}
 use Rattle.disk_core.specs.Content.{range}
 use Rattle.log_manifest.specs.declared.manifest.Live.{Live}

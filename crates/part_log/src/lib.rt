@@ -2,11 +2,13 @@
 #![tactic(auto)]
 
 mod appending;
+mod blanking;
 mod fault;
 mod log;
 mod opening;
 mod piece;
 mod reading;
+mod reading_at;
 mod rolling;
 mod scan;
 mod segment;
@@ -16,3 +18,8 @@ pub use fault::{LogFault, OpenFault};
 pub use log::PartLog;
 pub use log_manifest::LogSettings;
 pub use segment::{Found, SegmentInfo};
+
+#[cfg(test)]
+mod tests;
+#[cfg(test)]
+mod tests_cuts;

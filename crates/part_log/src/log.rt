@@ -2,7 +2,7 @@
 
 ghost use Rattle.std.specs.Prelude.{◌≡◌, ◌+◌, ◌^◌, ◌<◌, ◌≤◌, ◌↔◌, List, ℕ, length, true, false};
 ghost use Rattle.part_log.specs.Records.{Placed};
-ghost use Rattle.part_log.specs.Log.{IsLog, IsTable, disk_size, fits_last, is_full, is_packed, is_worn};
+ghost use Rattle.part_log.specs.Log.{IsLog, IsTable, disk_size, fits_last, is_full, is_packed, is_worn, takes_no_segment};
 
 use crate::segment::SegmentInfo;
 use crate::table::last_used;
@@ -121,6 +121,13 @@ impl<D: Disk> PartLog<D> {
         ensures { result ≡ is_packed self.now.table }
     {
         self.segments.len() + 1 >= usize::from(self.settings.segments)
+    }
+
+    /// Whether no segment can be added.
+    pub(crate) fn takes_no_segment(&self) -> bool
+        ensures { result ≡ takes_no_segment self.now.table }
+    {
+        self.is_packed() || self.worn()
     }
 
     /// Whether a record of so many bytes has no place.

@@ -54,7 +54,8 @@ pub(crate) fn read_bytes<D: Disk>(
     Ok(bytes)
 }
 
-fn zeros(alloc: Global, count: usize) -> Result<Vec<u8>, Memory>
+/// So many zeros.
+pub(crate) fn zeros(alloc: Global, count: usize) -> Result<Vec<u8>, Memory>
     ensures { IfOk result (λ bytes. length bytes.items ≡ count) }
 {
     Ok(vec![in alloc; 0u8; count]?)

@@ -1,6 +1,6 @@
 //! A segment more: its first gate is closed, and then the manifest names it too.
 
-ghost use Rattle.std.specs.Prelude.{◌≡◌, ◌⊎◌, ◌+◌, ◌-◌, ◌^◌, ◌<◌, ◌≤◌, List, ℕ, length, true, false, None, not, OnOk, OnErr, IfOk, IsErrOf, ◌++◌, ◌∷◌, []};
+ghost use Rattle.std.specs.Prelude.{◌≡◌, ◌⊎◌, ◌+◌, ◌-◌, ◌^◌, ◌<◌, ◌≤◌, ◌↔◌, List, ℕ, length, true, false, None, not, OnOk, OnErr, IfOk, IsErrOf, ◌++◌, ◌∷◌, []};
 ghost use Rattle.outside.specs.Causes.{HasCause, Rose};
 ghost use Rattle.disk_core.specs.Content.{ChangesBy, IsSettled, Only};
 ghost use Rattle.gate_slots.specs.Cell.{cell_at};
@@ -10,7 +10,7 @@ ghost use Rattle.log_manifest.specs.Manifests.{manifest_text};
 ghost use Rattle.part_log.specs.Records.{Placed, records_of};
 ghost use Rattle.part_log.specs.Segments.{place_of, ChangesIn};
 ghost use Rattle.part_log.specs.Images.{KeepsLog, OpensLog};
-ghost use Rattle.part_log.specs.Log.{AreInRange, IsLog, IsRolling, LogTable, first_table, manifest_of, is_packed, is_worn, least_free, rolled_table};
+ghost use Rattle.part_log.specs.Log.{AreInRange, IsLog, IsRolling, LogTable, first_table, manifest_of, is_packed, is_worn, least_free, rolled_table, takes_no_segment};
 
 use crate::fault::LogFault;
 use crate::log::PartLog;
@@ -118,5 +118,34 @@ impl<D: Disk> PartLog<D> {
                 Err(LogFault::Failed)
             }
         }
+    }
+    /// Adds the free segment with the least number as the last live one, so that the next record is put into it. Full comes
+    /// exactly where no segment is free but the one kept for compaction, or where the log is worn. `Memory` comes before
+    /// the first call of the disk. After `Failed` the log is down, and a disk that is opened again has the segment or not.
+    pub fn roll(&mut self, alloc: Global) -> Result<(), LogFault>
+        // At each moment of the call a crash leaves the records that were there.
+        ensures during { D.tells → (placed : List Placed) → IsLog self.old.table (D.content self.old.disk) placed
+            → ChangesBy (KeepsLog self.old.table.settings (least_free self.old.table) (records_of placed) self.old.table.end) (D.content self.old.disk) (D.content self.new.disk) }
+        ensures rolled { OnOk result (D.tells → (placed : List Placed) → IsLog self.old.table (D.content self.old.disk) placed → IsLog self.new.table (D.content self.new.disk) placed) }
+        ensures outside { D.tells → ChangesIn self.old.table.settings.segment (least_free self.old.table) (D.content self.old.disk).seen (D.content self.new.disk).seen }
+        ensures table { OnOk result (self.new.table ≡ rolled_table self.old.table (least_free self.old.table) self.new.table.slots) }
+
+        ensures full { IsErrOf result LogFault.Full ↔ ((self.old.down ≡ false) × (takes_no_segment self.old.table ≡ true)) }
+        ensures down { IsErrOf result LogFault.Down ↔ (self.old.down ≡ true) }
+        ensures failed { IsErrOf result LogFault.Failed → Rose (D.faults self.old.disk) (D.faults self.new.disk) × (self.new.down ≡ true) × (self.new.table ≡ self.old.table) }
+        ensures same_end { self.new.table.end ≡ self.old.table.end }
+        ensures unchanged { OnErr result (IsErrOf result LogFault.Failed ⊎ (self.new ≡ self.old)) }
+        ensures up { OnOk result (self.new.down ≡ false) }
+        ensures settings { self.new.table.settings ≡ self.old.table.settings }
+        ensures size { D.size self.new.disk ≡ D.size self.old.disk }
+        ensures later { D.faults self.old.disk ≤ D.faults self.new.disk }
+    {
+        if self.down {
+            return Err(LogFault::Down);
+        }
+        if self.takes_no_segment() {
+            return Err(LogFault::Full);
+        }
+        self.add_segment(alloc)
     }
 }

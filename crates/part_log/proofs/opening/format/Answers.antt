@@ -1,8 +1,8 @@
-use Rattle.std.proofs.Common.{◌≡◌, inr, ℕ, ◌+◌, ◌*◌, ◌<◌, ◌≤◌, ◌^◌, List, [], ◌∷◌, ◌++◌, refl, sym, ◌∙◌, ap, subst, arith}
+use Rattle.std.proofs.Common.{◌≡◌, inr, List, [], ◌∷◌, ◌++◌, refl, sym, ◌∙◌, ap, subst, arith}
 use Rattle.gate_slots.specs.Slots.{CurrentSlot}
 use Rattle.log_manifest.specs.Manifests.{manifest_text}
 use Rattle.part_log.specs.declared.segment.SegmentInfo.{SegmentInfo}
-use Rattle.part_log.specs.Segments.{lives_of, place_of}
+use Rattle.part_log.specs.Segments.{lives_of}
 use Rattle.part_log.specs.Log.{IsLog, IsTable, first_table, manifest_of}
 use Rattle.part_log.proofs.Formatting.{first_good}
 use Rattle.part_log.proofs.opening.format.Goals as goal

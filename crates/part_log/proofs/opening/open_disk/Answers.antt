@@ -1,4 +1,4 @@
-use Rattle.std.proofs.Common.{◌≡◌, ℕ, List, sym, ◌∙◌, ap, subst}
+use Rattle.std.proofs.Common.{ℕ, List, sym, ◌∙◌, subst}
 use Rattle.part_log.specs.Segments.{ChangesIn}
 use Rattle.part_log.specs.Images.{IsDamaged, NamesOther}
 use Rattle.part_log.specs.Opened.{IsOpened}

@@ -1,5 +1,4 @@
-use Rattle.std.proofs.Common.{◌≡◌, inl, ℕ, ◌+◌, ◌<◌, ◌^◌, max, List, Some, sym, ◌∙◌, ap, subst, arith}
-use Rattle.disk_core.specs.Content.{Content, Only}
+use Rattle.std.proofs.Common.{◌≡◌, inl, ℕ, ◌<◌, ◌^◌, max, List, Some, sym, ◌∙◌, subst, arith}
 use Rattle.gate_slots.specs.Cell.{cell_at}
 use Rattle.gate_slots.specs.Slots.{IsLoaded}
 use Rattle.log_manifest.specs.Manifests.{manifest_text}

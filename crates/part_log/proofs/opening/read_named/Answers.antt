@@ -1,4 +1,4 @@
-use Rattle.std.proofs.Common.{◌≡◌, inl, inr, ℕ, List, Option, Some, IfSome, IfOk, sym, ◌∙◌, ap, subst, rules}
+use Rattle.std.proofs.Common.{◌≡◌, inl, inr, Option, IfSome, IfOk, ◌∙◌, subst, rules}
 use Rattle.log_manifest.specs.declared.manifest.LogSettings.{LogSettings}
 use Rattle.log_manifest.specs.declared.manifest.Manifest.{Manifest}
 use Rattle.log_manifest.specs.Manifests.{IsManifest, manifest_text}

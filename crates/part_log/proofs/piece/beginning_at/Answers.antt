@@ -1,4 +1,4 @@
-use Rattle.std.proofs.Common.{◌≡◌, ℕ, ◌+◌, ◌-◌, ◌≤◌, List, length, ◌∙◌, ap, arith}
+use Rattle.std.proofs.Common.{ℕ, ◌-◌, ◌≤◌, List, length, ◌∙◌, ap, arith}
 use Rattle.disk_core.proofs.Ranges.{length-range}
 use Rattle.part_log.proofs.Beginnings.{at_hand, begins_all, begins_some}
 use Rattle.part_log.proofs.piece.beginning_at.Goals as goal

@@ -1,4 +1,3 @@
-use Rattle.std.proofs.Common.{sym, ◌∙◌}
 use Rattle.part_log.proofs.Beginnings.{gate_open}
 use Rattle.part_log.proofs.piece.beginning_of.Goals as goal
 

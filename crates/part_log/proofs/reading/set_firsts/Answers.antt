@@ -1,4 +1,4 @@
-use Rattle.std.proofs.Common.{◌≡◌, ℕ, ◌+◌, ◌-◌, ◌<◌, List, length, take, drop, set, sym, ◌∙◌, ap, subst, arith, length-set}
+use Rattle.std.proofs.Common.{◌≡◌, ℕ, ◌+◌, ◌-◌, ◌<◌, List, length, take, drop, ◌∙◌, ap, subst, arith, length-set}
 use Rattle.part_log.specs.declared.segment.SegmentInfo.{SegmentInfo}
 use Rattle.part_log.specs.Segments.{next_first, with_firsts}
 use Rattle.part_log.proofs.Lives.{item, item_is, step_first, step_front, step_done}

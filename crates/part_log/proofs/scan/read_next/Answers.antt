@@ -1,8 +1,7 @@
-use Rattle.std.proofs.Common.{◌≡◌, ℕ, ◌+◌, List, [], ◌∷◌, ◌++◌, sym, ◌∙◌, ap, subst, arith}
+use Rattle.std.proofs.Common.{◌+◌, [], ◌∷◌, ◌++◌, ◌∙◌, ap, subst, arith}
 use Rattle.disk_core.specs.Content.{range}
 use Rattle.msg_format.specs.declared.record.Head.{Head}
 use Rattle.part_log.specs.declared.piece.Beginning.{Beginning}
-use Rattle.part_log.specs.declared.segment.Found.{Found}
 use Rattle.part_log.specs.Scan.{BeginsAs}
 use Rattle.part_log.proofs.Scanning.{damaged_there}
 use Rattle.part_log.proofs.scan.read_next.Goals as goal

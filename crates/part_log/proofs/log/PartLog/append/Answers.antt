@@ -1,11 +1,10 @@
-use Rattle.std.proofs.Common.{◌≡◌, ℕ, ◌+◌, ◌≤◌, Bool, false, List, [], ◌∷◌, ◌++◌, Result, IfOk, sym, ◌∙◌, ap, subst, arith}
+use Rattle.std.proofs.Common.{◌≡◌, ℕ, false, List, sym, ◌∙◌, subst}
 use Rattle.disk_core.specs.Content.{ChangesBy}
-use Rattle.msg_format.specs.declared.record.Record.{Record}
 use Rattle.msg_format.specs.Records.{record_size}
 use Rattle.part_log.specs.Records.{Placed, records_of}
-use Rattle.part_log.specs.Images.{KeepsLog, PutsLast}
-use Rattle.part_log.specs.Segments.{ChangesIn, last_used}
-use Rattle.part_log.specs.Log.{LogState, LogTable, IsTable, IsLog, target_of, is_full, roomy_table}
+use Rattle.part_log.specs.Images.{KeepsLog}
+use Rattle.part_log.specs.Segments.{ChangesIn}
+use Rattle.part_log.specs.Log.{LogTable, IsTable, IsLog, target_of, is_full, roomy_table}
 use Rattle.part_log.proofs.Room.{nothing_kept, room_there, put_there, changes_there, if_ok_map}
 use Rattle.part_log.proofs.Putting.{keeps_as_put, keeps_then_put}
 use Rattle.part_log.proofs.Segments.{writes_twice}

@@ -1,5 +1,5 @@
 use Rattle.std.proofs.Common.{◌≡◌, ℕ, ◌+◌, ◌<◌, ◌≤◌, ◌^◌, List, [], ◌∷◌, ◌++◌, length, get_or, false, sym, ◌∙◌, ap, subst, arith}
-use Rattle.disk_core.specs.Content.{Content, ChangesBy, Torn}
+use Rattle.disk_core.specs.Content.{ChangesBy, Torn}
 use Rattle.gate_slots.specs.Gate.{OpensGate, IsShut}
 use Rattle.msg_format.specs.Records.{record_size}
 use Rattle.part_log.specs.declared.segment.SegmentInfo.{SegmentInfo}

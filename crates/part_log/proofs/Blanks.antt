@@ -1,0 +1,34 @@
+-- The first gate of a free segment is closed.
+use Rattle.std.proofs.Common.{◌≡◌, ℕ, ◌+◌, ◌≤◌, List, [], ◌∷◌, get_or, false, sym, ◌∙◌, ap, subst, arith, add-zero}
+use Rattle.disk_core.specs.Content.{Content, ChangesBy, Only, Holds, Torn}
+use Rattle.gate_slots.specs.Gate.{IsShut}
+use Rattle.gate_slots.proofs.Gates.{byte_at}
+use Rattle.part_log.specs.Records.{Placed, records_of}
+use Rattle.part_log.specs.Segments.{place_of, is_among}
+use Rattle.part_log.specs.Images.{KeepsLog}
+use Rattle.part_log.specs.Log.{LogTable, IsTable, IsLog}
+use Rattle.part_log.proofs.Free.{without_from}
+use Rattle.part_log.proofs.NewSegment.{free_write, log_stays}
+
+-- a zero that stands there alone closes the gate
+pub shut_there : (gate : ℕ) (old new : Content) → Holds gate (0 ∷ []) old.seen new.seen → Only new → IsShut gate new
+shut_there gate old new holds only c image at =
+    let zero_byte : get_or c gate 0 ≡ 0 = ap (λ (l : List ℕ). get_or l gate 0) (only c image) ∙ sym (byte_at gate new.seen) ∙ ap (λ (l : List ℕ). get_or l 0 0) holds.here in
+    omega (arith, zero_byte, at)
+
+module _ (table : LogTable) (target place : ℕ) (good : IsTable table) (free : is_among target table.segments ≡ false) (is : place ≡ place_of table.settings.segment target)
+    (old new : Content) (placed : List Placed) (log : IsLog table old placed) (write : ChangesBy (Torn place 1) old new) where
+  one_byte : 0 + 1 ≤ table.settings.segment
+  one_byte = omega (arith, good.settings.least)
+
+  at_start : place ≡ place_of table.settings.segment target + 0
+  at_start = is ∙ sym (add-zero (place_of table.settings.segment target))
+
+  its_write : ChangesBy (Torn (place_of table.settings.segment target + 0) 1) old new
+  its_write = subst (λ (k : ℕ). ChangesBy (Torn k 1) old new) at_start write
+
+  pub blank_keeps : ChangesBy (KeepsLog table.settings target (records_of placed) table.end) old new
+  blank_keeps = free_write table target 0 1 good (without_from target table.segments free) one_byte old new placed log its_write
+
+  pub blank_stays : Torn place 1 old.seen new.seen → IsLog table new placed
+  blank_stays torn = log_stays table target 0 1 good (without_from target table.segments free) one_byte old new placed log its_write (subst (λ (k : ℕ). Torn k 1 old.seen new.seen) at_start torn)
