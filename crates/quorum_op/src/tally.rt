@@ -83,6 +83,14 @@ impl Tally {
         self.slots[replica as usize]
     }
 
+    /// How many replicas were found: they stand at Yes, State or Absent.
+    pub fn found(&self) -> u32
+        ensures value { result ≡ slots_so self.now.slots is_found self.now.replicas }
+        ensures few { result ≤ 9 }
+    {
+        counted(&self.slots, self.replicas).found
+    }
+
     /// The replicas that stand at a failure, in replica order, each with its cause.
     pub fn failures(&self, alloc: Global) -> Result<Failures, Memory>
         ensures { IfOk result (λ failures. (notes : List Note) → IsTallyOf self.now notes → failures ≡ failed_replicas self.now.replicas notes) }
@@ -186,6 +194,7 @@ fn counted(slots: &[Option<Finding>], replicas: u32) -> Counts
     requires within { replicas ≤ length slots.now }
     ensures counts { (result.yes ≡ slots_so slots.now is_yes replicas) × (result.state ≡ slots_so slots.now is_state replicas) × (result.found ≡ slots_so slots.now is_found replicas) × (result.gone ≡ slots_so slots.now is_gone replicas) × (result.failed ≡ slots_so slots.now is_failed replicas) }
     ensures few { result.failed ≤ replicas }
+    ensures found_few { result.found ≤ replicas }
 {
     let mut counts = Counts {
         yes: 0,
