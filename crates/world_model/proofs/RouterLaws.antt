@@ -29,7 +29,7 @@ begun_more (Marked (Begin operation begun)) before = omega arith
 begun_more _ before = omega arith
 
 -- no operation has a number above the number of those begun
-begun_most : (rules : Rules) (record' : Record) (operation : ℕ) (begun : Begun) → IsKept rules record' → Has record' (Marked (Begin operation begun)) → operation ≤ begun_in record'
+pub begun_most : (rules : Rules) (record' : Record) (operation : ℕ) (begun : Begun) → IsKept rules record' → Has record' (Marked (Begin operation begun)) → operation ≤ begun_in record'
 begun_most rules [] operation begun k h = absurd h
 begun_most rules (item ∷ before) operation begun k h = elim h [
   | inl e ↦ (

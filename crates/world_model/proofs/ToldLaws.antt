@@ -114,6 +114,10 @@ woven opening placed (call ∷ calls) h =
 pub woven_runs : (opening : Cells) (placed : List Placed) (calls : List Called) → OnlySession placed → Run opening (told calls) → Run opening (weave placed calls)
 woven_runs opening placed calls h r = (woven opening placed calls h).1 r
 
+-- and both lead to one world
+pub woven_world : (opening : Cells) (placed : List Placed) (calls : List Called) → OnlySession placed → world opening (weave placed calls) ≡ world opening (told calls)
+woven_world opening placed calls h = (woven opening placed calls h).0
+
 -- several items of the session
 pub weave_items : (items : Record) (placed : List Placed) (calls : List Called) → weave (place (length calls) items ++ placed) calls ≡ items ++ weave placed calls
 weave_items [] placed calls = refl
@@ -133,7 +137,7 @@ place_session (item ∷ items) placed n d h = (d.0, place_session items placed n
 
 -- ---- the marks of the woven record
 
-marks_cons : (item : Item) (r q : Record) → marks_of r ≡ marks_of q → marks_of (item ∷ r) ≡ marks_of (item ∷ q)
+pub marks_cons : (item : Item) (r q : Record) → marks_of r ≡ marks_of q → marks_of (item ∷ r) ≡ marks_of (item ∷ q)
 marks_cons (Marked mark) r q e = ap (λ (l : List HistoryMark). mark ∷ l) e
 marks_cons (Drawn o p t id b) r q e = ap (λ (l : List HistoryMark). Drew o id ∷ l) e
 marks_cons (Aimed c p t) r q e = e

@@ -1,5 +1,5 @@
 -- What a network tells, and the record that is woven of it and of what a session keeps. All lists have the newest first.
-use Rattle.std.specs.Prelude.{◌≡◌, ℕ, ◌≤◌, ◌==◌, Bool, true, false, not, cond, List, [], ◌∷◌, ◌++◌, length, map, Option, Some, None}
+use Rattle.std.specs.Prelude.{◌≡◌, ℕ, ◌≤◌, ◌==◌, Bool, true, false, ◌&&◌, not, cond, List, [], ◌∷◌, ◌++◌, length, map, Option, Some, None}
 use Rattle.world_model.specs.declared.step.Called.{Called}
 use Rattle.world_model.specs.declared.step.Step.{Step}
 use Rattle.req_frame.specs.declared.frame.Frame.{Frame}
@@ -57,14 +57,14 @@ abbrev pub IsRising : List Placed → Type 0
 IsRising [] = Unit {0}
 IsRising (p ∷ placed) = AllWithin placed p.calls × IsRising placed
 
-abbrev pub is_own : Option Frame → Bool
-is_own None = false
-is_own (Some f) = true
+abbrev pub is_frame : Option Frame → Bool
+is_frame None = false
+is_frame (Some f) = true
 
--- steps that are no doing of the router's
+-- Steps that are no doing of the router's. What couldn't be sent has to be a frame: bytes that are none may be the router's fault.
 abbrev pub is_network : Step → Bool
 is_network (Step.Send from node frame) = not (from == 0)
-is_network (Step.Refused node frame) = not (is_own (router_frame (frame_in frame)))
+is_network (Step.Refused node frame) = is_frame (frame_in frame) && not (is_frame (router_frame (frame_in frame)))
 is_network _ = true
 
 abbrev pub AllNetwork : List Step → Type 0
