@@ -1,0 +1,142 @@
+use super::*;
+use blob_id::Words;
+use std::alloc::Global;
+use std::test::*;
+use world_model::Shape;
+
+fn read(alloc: Global, all: &[&str]) -> Result<Settings, WordsFault> {
+    let mut words = Words::new(alloc);
+    for word in all {
+        if words.push(alloc, word).is_err() {
+            return Err(WordsFault::Memory);
+        }
+    }
+    read_words(alloc, &words)
+}
+
+/// The numbers of a shape that options set: nodes, replicas, partitions, and the needs of a put and of a get.
+fn numbers(shape: &Shape) -> [u32; 5] {
+    [
+        shape.nodes,
+        shape.replicas,
+        shape.partitions,
+        shape.put,
+        shape.get,
+    ]
+}
+
+#[test]
+fn shapes_are_read(rt: HostRuntime) -> Result<(), Fail> {
+    let table: [(&[&str], [u32; 5]); 12] = [
+        (&["run"], [3, 3, 4, 2, 2]),
+        (&["run", "--nodes", "1"], [1, 1, 4, 1, 1]),
+        (&["run", "--nodes=1"], [1, 1, 4, 1, 1]),
+        (&["run", "--nodes=2"], [2, 2, 4, 2, 2]),
+        (&["run", "--nodes", "9"], [9, 3, 4, 2, 2]),
+        (&["run", "--nodes", "001"], [1, 1, 4, 1, 1]),
+        (&["run", "--nodes=00000000000000000009"], [9, 3, 4, 2, 2]),
+        (&["run", "--put", "3", "--get", "1"], [3, 3, 4, 3, 1]),
+        (
+            &["run", "--partitions=64", "--replicas", "1"],
+            [3, 1, 64, 1, 1],
+        ),
+        (&["run", "--replicas", "9", "--nodes", "9"], [9, 9, 4, 5, 5]),
+        (&["run", "--replicas=4", "--nodes=5"], [5, 4, 4, 3, 3]),
+        (
+            &["run", "--get=2", "--put=1", "--partitions", "1"],
+            [3, 3, 1, 1, 2],
+        ),
+    ];
+    for (words, wanted) in table {
+        let settings = read(rt.alloc(), words)?;
+        assert_eq!(rt; numbers(&settings.shape), wanted);
+        assert_eq!(rt; settings.shape.delete, wanted[1] / 2 + 1);
+        assert_eq!(rt; settings.ids, None);
+        assert_eq!(rt; settings.seed, 0);
+    }
+    Ok(())
+}
+
+#[test]
+fn other_numbers_are_their_defaults(rt: HostRuntime) -> Result<(), Fail> {
+    let shape = read(rt.alloc(), &["run"])?.shape;
+    assert_eq!(rt; shape.chunk, 65_536);
+    assert_eq!(rt; shape.log.segment, 1_048_576);
+    assert_eq!(rt; shape.log.segments, 8);
+    assert_eq!(rt; shape.log.index, 256);
+    Ok(())
+}
+
+#[test]
+fn ids_and_seeds_are_read(rt: HostRuntime) -> Result<(), Fail> {
+    let table: [(&[&str], Option<u64>, u64); 6] = [
+        (&["run", "--ids", "18446744073709551615"], Some(u64::MAX), 0),
+        (&["run", "--ids=0"], Some(0), 0),
+        (&["run", "--seed", "0"], None, 0),
+        (&["run", "--seed=18446744073709551615"], None, u64::MAX),
+        (&["run", "--seed", "12", "--ids", "34"], Some(34), 12),
+        (&["run", "--ids=34", "--nodes=1", "--seed=12"], Some(34), 12),
+    ];
+    for (words, ids, seed) in table {
+        let settings = read(rt.alloc(), words)?;
+        assert_eq!(rt; settings.ids, ids);
+        assert_eq!(rt; settings.seed, seed);
+    }
+    Ok(())
+}
+
+#[test]
+fn words_outside_the_grammar_are_refused(rt: HostRuntime) -> Result<(), Fail> {
+    let table: [&[&str]; 42] = [
+        &[],
+        &["load"],
+        &["Run"],
+        &[""],
+        &["--nodes", "1"],
+        &["run", "run"],
+        &["run", ""],
+        &["run", "-"],
+        &["run", "--"],
+        &["run", "-n", "1"],
+        &["run", "--help"],
+        &["run", "--version"],
+        &["run", "--delete", "1"],
+        &["run", "--delete=1"],
+        &["run", "--node", "1"],
+        &["run", "--Nodes", "1"],
+        &["run", "nodes", "1"],
+        &["run", "1"],
+        &["run", "--nodes"],
+        &["run", "--nodes="],
+        &["run", "--nodes", ""],
+        &["run", "--nodes", "0"],
+        &["run", "--nodes", "10"],
+        &["run", "--nodes", "-1"],
+        &["run", "--nodes=-1"],
+        &["run", "--nodes", "+1"],
+        &["run", "--nodes", " 1"],
+        &["run", "--nodes", "one"],
+        &["run", "--nodes==1"],
+        &["run", "--nodes", "000000000000000000001"],
+        &["run", "--nodes", "1", "1"],
+        &["run", "--nodes", "--seed", "1"],
+        &["run", "--nodes", "1", "--nodes", "1"],
+        &["run", "--nodes", "1", "--seed", "1", "--nodes=2"],
+        &["run", "--replicas", "4"],
+        &["run", "--nodes", "2", "--replicas", "3"],
+        &["run", "--replicas", "0"],
+        &["run", "--nodes", "1", "--put", "2"],
+        &["run", "--get=0"],
+        &["run", "--partitions", "65"],
+        &["run", "--ids", "18446744073709551616"],
+        &["run", "--seed", "99999999999999999999"],
+    ];
+    for words in table {
+        match read(rt.alloc(), words) {
+            Err(WordsFault::Usage) => {}
+            Err(WordsFault::Memory) => return Err(Fail::new("memory")),
+            Ok(_) => return Err(Fail::new("read")),
+        }
+    }
+    Ok(())
+}
