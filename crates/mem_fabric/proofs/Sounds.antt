@@ -1,0 +1,469 @@
+-- What holds of a state at any time, after each kind of call.
+use Rattle.std.proofs.Common.{◌≡◌, ◌⊎◌, ℕ, zero, suc, ◌+◌, ◌-◌, ◌^◌, min, ◌<◌, ◌≤◌, arith, ◌==◌, Bool, true, false, cond, List, [], ◌∷◌, ◌++◌, length, map, take, drop, Option, Some, None, All, slice_index, slice_index_or, slice_get, refl, sym, ap, ◌∙◌, subst, inl, inr, length-append}
+use Rattle.std.specs.Prelude.{remove, IsSome}
+use Rattle.std.proofs.lemmas.List.{map-append, get_or-map}
+use Rattle.std.proofs.lemmas.List.Edits.{length-remove}
+use Rattle.std.proofs.lemmas.List.Elements.{All-push, All-weaker, All-append, All-take, All-drop}
+use Rattle.std.proofs.lemmas.Option.{slice_get_read}
+use Rattle.blob_id.specs.declared.id.BlobId.{BlobId}
+use Rattle.cell_model.specs.declared.ask.Ask.{Ask}
+use Rattle.cell_model.specs.declared.ask.Reply.{Reply}
+use Rattle.cell_model.specs.declared.cell.Cell.{Cell}
+use Rattle.cell_model.specs.Asks.{id_of, Answers, IsRefusal, AnswersInRange}
+use Rattle.cell_model.specs.Cells.{join}
+use Rattle.req_frame.specs.declared.frame.Body.{Body}
+use Rattle.req_frame.specs.declared.frame.Frame.{Frame}
+use Rattle.req_frame.specs.Reading.{frame_of}
+use Rattle.req_frame.specs.Spelling.{frame_text, IsFrame}
+use Rattle.mem_fabric.specs.Asking.{IsQuestion, Reads}
+use Rattle.mem_fabric.specs.declared.asking.Question.{Question}
+use Rattle.mem_fabric.specs.declared.flight.Asked.{Asked}
+use Rattle.mem_fabric.specs.declared.flight.Replied.{Replied}
+use Rattle.mem_fabric.specs.declared.past.Past.{Past}
+use Rattle.mem_fabric.specs.Network.{Network, Moved, nothing_held, world_of, taken, ticked, quiet, handed, reply_event, after_move, after_send, asked_of, asked_by, answered, ran, stands, MayAnswer, MayGive}
+use Rattle.mem_fabric.specs.Past.{calls_of}
+use Rattle.mem_fabric.specs.Slots.{Standing}
+use Rattle.mem_fabric.specs.Standing.{stands_at, cells_of, IsAsked}
+use Rattle.mem_fabric.specs.Sound.{State, told_world, IsSent, IsGiven, IsStateOf, IsSound, network_of, image_of, KeepsState, asked_number, replied_number, RunsRequest, QuestionAt, AskedAs}
+use Rattle.mem_fabric.proofs.Worlds.{goes_to, AllowedOn, world_on, keeps_run, after_quiet, after_now, after_sent, after_handed, after_ran}
+use Rattle.world_model.specs.declared.step.Called.{Called}
+use Rattle.world_model.specs.declared.step.Event.{Event}
+use Rattle.world_model.specs.declared.step.Step.{Step}
+use Rattle.world_model.specs.Fabric.{IsImageOf, KeepsRun}
+use Rattle.world_model.specs.Frames.{frame_in}
+use Rattle.world_model.specs.Lists.{numbered}
+use Rattle.world_model.specs.Told.{items_of, told}
+use Rattle.world_model.specs.World.{Cells, World, Request, Answered, Call, Reply_made, Now_made, made_by, Shows, IsNext, world, call_from, call_of, call_at, arriving_call, MayReply, MayRun}
+use Rattle.world_model.proofs.CellLaws.{same_number, number_true}
+use Rattle.world_model.proofs.NoteLaws.{decoded_frame}
+
+-- ---- lists
+
+-- what a number names stays, where one comes before it
+pub numbered_below : {A : Type 0} (xs : List A) (k : ℕ) (x : A) → numbered xs k ≡ Some x → k < length xs
+numbered_below [] k x h = absurd cc
+numbered_below {A} (y ∷ xs) k x h = go (numbered_below xs k x) (k == length xs) refl h
+  where
+    go : (numbered xs k ≡ Some x → k < length xs) → (b : Bool) → (k == length xs) ≡ b → cond b (Some y) (numbered xs k) ≡ Some x → k < length (y ∷ xs)
+    go ih true e q = let here : k ≡ length xs = number_true k (length xs) e in omega arith
+    go ih false e q = let less : k < length xs = ih q in omega arith
+
+pub numbered_more : {A : Type 0} (y : A) (xs : List A) (k : ℕ) (x : A) → numbered xs k ≡ Some x → numbered (y ∷ xs) k ≡ Some x
+numbered_more {A} y xs k x h = go (k == length xs) refl
+  where
+    go : (b : Bool) → (k == length xs) ≡ b → cond b (Some y) (numbered xs k) ≡ Some x
+    go true e = absurd (let here : k ≡ length xs = number_true k (length xs) e in let less : k < length xs = numbered_below xs k x h in omega arith)
+    go false e = h
+
+pub numbered_last : {A : Type 0} (y : A) (xs : List A) (k : ℕ) → length xs ≡ k → numbered (y ∷ xs) k ≡ Some y
+numbered_last y xs k e = ap (λ (b : Bool). cond b (Some y) (numbered xs k)) (ap (λ (l : ℕ). k == l) e ∙ same_number k)
+
+pub All-taken : {A : Type 0} (P : A → Type 0) (xs : List A) (i : ℕ) (stays : Bool) → All P xs → All P (taken xs i stays)
+All-taken P xs i true h = h
+All-taken P xs i false h = All-append P (take i xs) (drop (suc i) xs) (All-take P i xs h) (All-drop P (suc i) xs h)
+
+pub length-taken : {A : Type 0} (xs : List A) (i : ℕ) (stays : Bool) → i < length xs → length (taken xs i stays) ≤ length xs
+length-taken xs i true l = omega arith
+length-taken xs i false l = omega (arith, length-remove xs i l)
+
+map-take : {A B : Type 0} (f : A → B) (n : ℕ) (xs : List A) → map f (take n xs) ≡ take n (map f xs)
+map-take f zero xs = refl
+map-take f (suc n) [] = refl
+map-take f (suc n) (x ∷ xs) = ap (λ l. f x ∷ l) (map-take f n xs)
+
+map-drop : {A B : Type 0} (f : A → B) (n : ℕ) (xs : List A) → map f (drop n xs) ≡ drop n (map f xs)
+map-drop f zero xs = refl
+map-drop f (suc n) [] = refl
+map-drop f (suc n) (x ∷ xs) = map-drop f n xs
+
+pub map-taken : {A B : Type 0} (f : A → B) (xs : List A) (i : ℕ) (stays : Bool) → map f (taken xs i stays) ≡ taken (map f xs) i stays
+map-taken f xs i true = refl
+map-taken f xs i false = map-append f (take i xs) (drop (suc i) xs) ∙ ap (λ l. l ++ map f (drop (suc i) xs)) (map-take f i xs) ∙ ap (λ l. take i (map f xs) ++ l) (map-drop f (suc i) xs)
+
+-- ---- a call
+
+-- the world after one more call
+pub world_by : (past before : Past) (call : Called) (w : World) → calls_of past ≡ call ∷ calls_of before → goes_to (told_world before) (items_of call) ≡ w → told_world past ≡ w
+world_by past before call w told_is is = ap (λ (calls : List Called). world nothing_held (told calls)) told_is ∙ world_on nothing_held (items_of call) (told (calls_of before)) ∙ is
+
+pub image_is : (s : State) → IsStateOf (told_world s.past) s → IsImageOf (image_of s) (told_world s.past)
+image_is s is = record { cells = is.cells; doubts = λ n p. sym (is.sure n p); stopped = λ n. sym (is.running n) }
+
+pub keeps : (s s' : State) (call : Called) → IsSound s → IsSound s' → calls_of s'.past ≡ call ∷ calls_of s.past → AllowedOn (told_world s.past) (items_of call) → KeepsState s s'
+keeps s s' call sound sound' told_is allowed =
+    subst (λ (calls : List Called). KeepsRun (Some (calls_of s.past)) (Some (image_of s)) (Some calls) (Some (image_of s'))) (sym told_is)
+    (keeps_run (calls_of s.past) (image_of s) call (image_of s') (image_is s sound.state) allowed
+    (subst (λ (calls : List Called). IsImageOf (image_of s') (world nothing_held (told calls))) told_is (image_is s' sound'.state)))
+
+-- a state after one more call that made a move
+pub record Steps (s s' : State) (m : Moved) : Type 0 where
+  pub sound : IsSound s'
+  pub run : KeepsState s s'
+  pub network : network_of s' ≡ after_move (network_of s) m
+
+-- what a move is told as
+abbrev pub told_as : Moved → Called
+told_as m = record { steps = m.steps; given = Some m.event }
+
+-- ---- the clock
+
+pub steps_now : (s : State) (ms moment : ℕ) (past : Past) → IsSound s → s.clock < 2 ^ 64 → moment ≡ min (s.clock + ms) (2 ^ 64 - 1)
+    → calls_of past ≡ record { steps = Step.Now moment ∷ []; given = Some (Event.Now moment) } ∷ calls_of s.past
+    → Steps s (record s { clock = moment; past = past }) (ticked (network_of s) ms)
+steps_now s ms moment past sound small moment_is told_is =
+    let w : World = told_world s.past in
+    let st = sound.state in
+    let s' : State = record s { clock = moment; past = past } in
+    let there : told_world past ≡ record w { clock = moment } = world_by past s.past _ _ told_is (after_now w moment st.given) in
+    let state : IsStateOf (record w { clock = moment }) s' = record {
+      cells = st.cells;
+      sure = st.sure;
+      running = st.running;
+      given = st.given;
+      clock = refl;
+      sent = st.sent;
+      answered = st.answered;
+      requests = st.requests;
+      replies = st.replies;
+    } in
+    let sound' : IsSound s' = record {
+      state = subst (λ (v : World). IsStateOf v s') (sym there) state;
+      few_requests = sound.few_requests;
+      few_replies = sound.few_replies;
+      small_sent = sound.small_sent;
+      small_answered = sound.small_answered;
+      shape = sound.shape;
+      standing = sound.standing;
+    } in
+    let later : w.clock ≤ moment = omega (arith, st.clock, moment_is) in
+    let next : IsNext (w.waiting ++ Now_made moment ∷ []) (Event.Now moment) = subst (λ l. IsNext (l ++ Now_made moment ∷ []) (Event.Now moment)) (sym st.given) refl in
+    let clock_is : moment ≡ min (w.clock + ms) (2 ^ 64 - 1) = moment_is ∙ ap (λ c. min (c + ms) (2 ^ 64 - 1)) (sym st.clock) in
+    record {
+      sound = sound';
+      run = keeps s s' (record { steps = Step.Now moment ∷ []; given = Some (Event.Now moment) }) sound sound' told_is ((tt, later), next);
+      network = ap (λ calls. record (network_of s) { calls = calls }) (told_is ∙ ap (λ k. record { steps = Step.Now k ∷ []; given = Some (Event.Now k) } ∷ calls_of s.past) clock_is);
+    }
+
+-- ---- nothing comes of it
+
+steps_quiet : (s : State) (requests : List Asked) (replies : List Replied) (past : Past) → IsSound s
+    → All (IsSent (told_world s.past).sent) requests → length requests ≤ length s.requests
+    → All (IsGiven (told_world s.past).replies) replies → length replies ≤ length s.replies
+    → calls_of past ≡ record { steps = []; given = Some Event.Quiet } ∷ calls_of s.past
+    → Steps s (record s { requests = requests; replies = replies; past = past }) (quiet (map asked_number requests) (map replied_number replies))
+steps_quiet s requests replies past sound known few known' few' told_is =
+    let w : World = told_world s.past in
+    let st = sound.state in
+    let s' : State = record s { requests = requests; replies = replies; past = past } in
+    let there : told_world past ≡ w = world_by past s.past _ _ told_is (after_quiet w) in
+    let state : IsStateOf w s' = record {
+      cells = st.cells;
+      sure = st.sure;
+      running = st.running;
+      given = st.given;
+      clock = st.clock;
+      sent = st.sent;
+      answered = st.answered;
+      requests = known;
+      replies = known';
+    } in
+    let fewer = sound.few_requests in
+    let fewer' = sound.few_replies in
+    let sound' : IsSound s' = record {
+      state = subst (λ (v : World). IsStateOf v s') (sym there) state;
+      few_requests = omega arith;
+      few_replies = omega arith;
+      small_sent = sound.small_sent;
+      small_answered = sound.small_answered;
+      shape = sound.shape;
+      standing = sound.standing;
+    } in
+    record {
+      sound = sound';
+      run = keeps s s' (record { steps = []; given = Some Event.Quiet }) sound sound' told_is (tt, tt);
+      network = ap (λ calls. record { shape = s.shape; calls = calls; requests = map asked_number requests; replies = map replied_number replies }) told_is;
+    }
+
+pub steps_left : (s : State) (place : ℕ) (stays : Bool) (past : Past) → IsSound s → place < length s.requests
+    → calls_of past ≡ record { steps = []; given = Some Event.Quiet } ∷ calls_of s.past
+    → Steps s (record s { requests = taken s.requests place stays; past = past }) (quiet (taken (network_of s).requests place stays) (network_of s).replies)
+steps_left s place stays past sound within told_is =
+    subst (λ l. Steps s (record s { requests = taken s.requests place stays; past = past }) (quiet l (network_of s).replies)) (map-taken asked_number s.requests place stays)
+    (steps_quiet s (taken s.requests place stays) s.replies past sound
+    (All-taken (IsSent (told_world s.past).sent) s.requests place stays sound.state.requests) (length-taken s.requests place stays within)
+    sound.state.replies (omega arith) told_is)
+
+pub steps_dropped : (s : State) (place : ℕ) (past : Past) → IsSound s → place < length s.replies
+    → calls_of past ≡ record { steps = []; given = Some Event.Quiet } ∷ calls_of s.past
+    → Steps s (record s { replies = taken s.replies place false; past = past }) (quiet (network_of s).requests (taken (network_of s).replies place false))
+steps_dropped s place past sound within told_is =
+    subst (λ l. Steps s (record s { replies = taken s.replies place false; past = past }) (quiet (network_of s).requests l)) (map-taken replied_number s.replies place false)
+    (steps_quiet s s.requests (taken s.replies place false) past sound
+    sound.state.requests (omega arith)
+    (All-taken (IsGiven (told_world s.past).replies) s.replies place false sound.state.replies) (length-taken s.replies place false within) told_is)
+
+-- ---- a request is sent
+
+-- the same call, by equal parts
+pub sent_as : {node node' : ℕ} {frame frame' : List ℕ} {before before' : List Called} → node ≡ node' → frame ≡ frame' → before ≡ before'
+    → record { steps = Step.Send 0 node frame ∷ []; given = None } ∷ before ≡ record { steps = Step.Send 0 node' frame' ∷ []; given = None } ∷ before'
+sent_as e f g = cc
+
+pub record Sends (s s' : State) (node : ℕ) (frame : List ℕ) : Type 0 where
+  pub sound : IsSound s'
+  pub run : KeepsState s s'
+  pub network : network_of s' ≡ after_send (network_of s) node frame
+
+pub steps_sent : (s : State) (node : ℕ) (frame : List ℕ) (past : Past) (sent : ℕ) → IsSound s → sent ≡ s.sent + 1 → sent < 2 ^ 32
+    → calls_of past ≡ record { steps = Step.Send 0 node frame ∷ []; given = None } ∷ calls_of s.past
+    → Sends s (record s { requests = s.requests ++ record { number = s.sent; node = node; frame = frame } ∷ []; sent = sent; past = past }) node frame
+steps_sent s node frame past sent sound more small told_is =
+    let w : World = told_world s.past in
+    let st = sound.state in
+    let asked : Asked = record { number = s.sent; node = node; frame = frame } in
+    let request : Request = record { from = 0; node = node; frame = frame_in frame } in
+    let w' : World = record w { sent = request ∷ w.sent } in
+    let s' : State = record s { requests = s.requests ++ asked ∷ []; sent = sent; past = past } in
+    let there : told_world past ≡ w' = world_by past s.past _ _ told_is (after_sent w node frame) in
+    let known : All (IsSent w'.sent) (s.requests ++ asked ∷ []) =
+    All-push (IsSent w'.sent) s.requests asked (All-weaker (IsSent w.sent) (IsSent w'.sent) (λ a h. numbered_more request w.sent a.number _ h) s.requests st.requests) (numbered_last request w.sent s.sent st.sent) in
+    let count : length (request ∷ w.sent) ≡ sent = omega (arith, st.sent, more) in
+    let state : IsStateOf w' s' = record {
+      cells = st.cells;
+      sure = st.sure;
+      running = st.running;
+      given = st.given;
+      clock = st.clock;
+      sent = count;
+      answered = st.answered;
+      requests = known;
+      replies = st.replies;
+    } in
+    let fewer = sound.few_requests in
+    let sound' : IsSound s' = record {
+      state = subst (λ (v : World). IsStateOf v s') (sym there) state;
+      few_requests = omega (arith, length-append s.requests (asked ∷ []), more);
+      few_replies = sound.few_replies;
+      small_sent = small;
+      small_answered = sound.small_answered;
+      shape = sound.shape;
+      standing = sound.standing;
+    } in
+    let numbers : map asked_number (s.requests ++ asked ∷ []) ≡ map asked_number s.requests ++ length w.sent ∷ [] =
+    map-append asked_number s.requests (asked ∷ []) ∙ ap (λ k. map asked_number s.requests ++ k ∷ []) (sym st.sent) in
+    record {
+      sound = sound';
+      run = keeps s s' (record { steps = Step.Send 0 node frame ∷ []; given = None }) sound sound' told_is (tt, inl refl);
+      network = ap (λ calls. record { shape = s.shape; calls = calls; requests = map asked_number (s.requests ++ asked ∷ []); replies = map replied_number s.replies }) told_is
+          ∙ ap (λ l. record { shape = s.shape; calls = record { steps = Step.Send 0 node frame ∷ []; given = None } ∷ calls_of s.past; requests = l; replies = map replied_number s.replies }) numbers;
+    }
+
+-- ---- a reply comes
+
+pub record Hands (s s' : State) (place : ℕ) (stays : Bool) (event : Event) : Type 0 where
+  pub steps : Steps s s' (handed (network_of s) (Some place) stays)
+  pub gave : (handed (network_of s) (Some place) stays).event ≡ event
+
+pub steps_handed : (s : State) (place : ℕ) (stays : Bool) (replied : Replied) (bytes : List ℕ) (past : Past) → IsSound s → place < length s.replies → replied ≡ slice_index_or s.replies place replied
+    → bytes ≡ frame_text replied.frame → frame_of bytes ≡ Some replied.frame
+    → calls_of past ≡ record { steps = Step.Hand replied.number ∷ []; given = Some (Event.Reply replied.node bytes) } ∷ calls_of s.past
+    → Hands s (record s { replies = taken s.replies place stays; past = past }) place stays (Event.Reply replied.node bytes)
+steps_handed s place stays replied bytes past sound within here spelled read told_is =
+    let w : World = told_world s.past in
+    let st = sound.state in
+    let g : IsGiven w.replies replied = subst (λ r. IsGiven w.replies r) (sym here) (st.replies place replied within) in
+    let answer : Answered = record { request = record { from = 0; node = replied.node; frame = Some g.asked }; reply = g.reply } in
+    let event : Event = Event.Reply replied.node bytes in
+    let w' : World = record w { handed = replied.number ∷ w.handed } in
+    let s' : State = record s { replies = taken s.replies place stays; past = past } in
+    let there : told_world past ≡ w' = world_by past s.past _ _ told_is (after_handed w replied.number answer replied.node bytes st.given g.is refl) in
+    let state : IsStateOf w' s' = record {
+      cells = st.cells;
+      sure = st.sure;
+      running = st.running;
+      given = st.given;
+      clock = st.clock;
+      sent = st.sent;
+      answered = st.answered;
+      requests = st.requests;
+      replies = All-taken (IsGiven w.replies) s.replies place stays st.replies;
+    } in
+    let fewer = sound.few_replies in
+    let sound' : IsSound s' = record {
+      state = subst (λ (v : World). IsStateOf v s') (sym there) state;
+      few_requests = sound.few_requests;
+      few_replies = omega (arith, length-taken s.replies place stays within);
+      small_sent = sound.small_sent;
+      small_answered = sound.small_answered;
+      shape = sound.shape;
+      standing = sound.standing;
+    } in
+    let shown : Shows (Reply_made answer) event = (refl, (g.asked, refl, decoded_frame bytes replied.frame read ∙ ap Some g.frame)) in
+    let next : IsNext (w.waiting ++ made_by (numbered w.replies replied.number)) event =
+    subst (λ o. IsNext (w.waiting ++ made_by o) event) (sym g.is) (subst (λ l. IsNext (l ++ made_by (Some answer)) event) (sym st.given) shown) in
+    let some : IsSome (numbered w.replies replied.number) = subst (λ o. IsSome o) (sym g.is) refl in
+    let number : slice_index (network_of s).replies place ≡ replied.number = get_or-map replied_number s.replies place replied 0 within ∙ ap replied_number (sym here) in
+    let given_as : reply_event (numbered w.replies (slice_index (network_of s).replies place)) ≡ event =
+    ap (λ k. reply_event (numbered w.replies k)) number ∙ ap reply_event g.is ∙ ap (λ l. Event.Reply replied.node l) (ap frame_text (sym g.frame) ∙ sym spelled) in
+    record {
+      steps = record {
+        sound = sound';
+        run = keeps s s' (record { steps = Step.Hand replied.number ∷ []; given = Some event }) sound sound' told_is ((tt, some), next);
+        network =
+            ap (λ calls. record { shape = s.shape; calls = calls; requests = map asked_number s.requests; replies = map replied_number (taken s.replies place stays) }) told_is
+            ∙ ap (λ l. record { shape = s.shape; calls = record { steps = Step.Hand replied.number ∷ []; given = Some event } ∷ calls_of s.past; requests = map asked_number s.requests; replies = l }) (map-taken replied_number s.replies place stays)
+            ∙ ap (λ k. record { shape = s.shape; calls = record { steps = Step.Hand k ∷ []; given = Some event } ∷ calls_of s.past; requests = map asked_number s.requests; replies = taken (map replied_number s.replies) place stays }) (sym number)
+            ∙ ap (λ e. record { shape = s.shape; calls = record { steps = Step.Hand (slice_index (network_of s).replies place) ∷ []; given = Some e } ∷ calls_of s.past; requests = map asked_number s.requests; replies = taken (map replied_number s.replies) place stays }) (sym given_as);
+      };
+      gave = given_as;
+    }
+
+-- ---- a request is run
+
+-- a node may reply so in the world
+may_run : (n : Network) (call : Call) (reply : Reply) → MayAnswer n call reply → MayReply None ((world_of n).cells call.node call.partition (id_of call.ask)) call.ask reply
+may_run n call reply may = go (stands n.shape call.node call.partition) refl
+  where
+    go : (b : Bool) → stands n.shape call.node call.partition ≡ b → MayReply None ((world_of n).cells call.node call.partition (id_of call.ask)) call.ask reply
+    go false e = inr (inr (may.none e))
+    go true e = elim (may.some e) [
+      | inl answers ↦ inl answers
+      | inr refused ↦ inr (inl (refused.1, λ fault. absurd (let same : Reply.Memory ≡ Reply.Fault = sym refused.0 ∙ fault in cc)))
+    ]
+
+-- a state after the request at a place was run
+pub record RunsSoundly (s : State) (place : ℕ) (stays : Bool) (s' : State) : Type 0 where
+  pub sound : IsSound s'
+  pub run : KeepsState s s'
+  pub runs : RunsRequest s (Some place) stays Event.Quiet s'
+
+-- the reply to a question that a request asks
+pub steps_ran : (s : State) (place : ℕ) (stays : Bool) (asked : Asked) (f : Frame) (question : Question) (reply : Reply) (replicas : Standing) (past : Past) (count : ℕ) → IsSound s
+    → place < length s.requests → asked ≡ slice_index_or s.requests place asked
+    → frame_in asked.frame ≡ Some f → IsFrame f → IsQuestion f question
+    → IsAsked s.replicas asked.node question.partition question.ask reply replicas → AnswersInRange reply
+    → count ≡ s.answered + 1 → count < 2 ^ 32
+    → calls_of past ≡ record { steps = Step.Exec asked.number reply ∷ []; given = Some Event.Quiet } ∷ calls_of s.past
+    → RunsSoundly s place stays (record s {
+      replicas = replicas;
+      requests = taken s.requests place stays;
+      replies = s.replies ++ record { number = s.answered; node = asked.node; frame = record { correlation = question.correlation; partition = question.partition; body = Body.Answer reply } } ∷ [];
+      answered = count;
+      past = past;
+    })
+steps_ran s place stays asked f question reply replicas past count sound within here is_frame is_f asks step range more small told_is =
+    let w : World = told_world s.past in
+    let st = sound.state in
+    let n : Network = network_of s in
+    let sent_is : IsSent w.sent asked = subst (λ a. IsSent w.sent a) (sym here) (st.requests place asked within) in
+    let request : Request = record { from = 0; node = asked.node; frame = Some f } in
+    let request_is : numbered w.sent asked.number ≡ Some request = sent_is ∙ ap (λ o. Some (record { from = 0; node = asked.node; frame = o })) is_frame in
+    let call : Call = record { node = asked.node; partition = question.partition; ask = question.ask } in
+    let called : call_of (Some request) ≡ Some call =
+    ap (λ o. call_from asked.node f.partition o) asks.asks.ask ∙ ap (λ p. Some (record { node = asked.node; partition = p; ask = question.ask })) (sym asks.partition) in
+    let replied : Replied = record { number = s.answered; node = asked.node; frame = record { correlation = question.correlation; partition = question.partition; body = Body.Answer reply } } in
+    let answer : Answered = record { request = request; reply = reply } in
+    let cells : Cells = λ node p id. join (w.cells node p id) (arriving_call (call_of (Some request)) reply node p id) in
+    let w' : World = record w { cells = cells; replies = answer ∷ w.replies } in
+    let s' : State = record s { replicas = replicas; requests = taken s.requests place stays; replies = s.replies ++ replied ∷ []; answered = count; past = past } in
+    let there : told_world past ≡ w' = world_by past s.past _ _ told_is (after_ran w asked.number request reply request_is) in
+    let held : (node p : ℕ) (id : BlobId) → cells_of replicas node p id ≡ cells node p id = λ node p id.
+    step.cells node p id
+    ∙ ap (λ c. join c (arriving_call (Some call) reply node p id)) (st.cells node p id)
+    ∙ ap (λ o. join (w.cells node p id) (arriving_call o reply node p id)) (sym called) in
+    let spelled : IsFrame replied.frame = record {
+      kind = refl;
+      correlation = subst (λ k. k < 2 ^ 64) (sym asks.correlation) is_f.correlation;
+      partition = subst (λ k. k < 2 ^ 16) (sym asks.partition) is_f.partition;
+      body = range;
+      place = tt;
+    } in
+    let new_given : IsGiven (answer ∷ w.replies) replied = record {
+      asked = f;
+      reply = reply;
+      is = numbered_last answer w.replies s.answered st.answered;
+      frame = ap (λ k. record { correlation = k; partition = question.partition; body = Body.Answer reply }) asks.correlation ∙ ap (λ k. record { correlation = f.correlation; partition = k; body = Body.Answer reply }) asks.partition;
+      spelled = spelled;
+    } in
+    let given : All (IsGiven (answer ∷ w.replies)) (s.replies ++ replied ∷ []) =
+    All-push (IsGiven (answer ∷ w.replies)) s.replies replied
+    (All-weaker (IsGiven w.replies) (IsGiven (answer ∷ w.replies)) (λ r g. record { asked = g.asked; reply = g.reply; is = numbered_more answer w.replies r.number _ g.is; frame = g.frame; spelled = g.spelled }) s.replies st.replies)
+    new_given in
+    let counted : length (answer ∷ w.replies) ≡ count = omega (arith, st.answered, more) in
+    let state : IsStateOf w' s' = record {
+      cells = held;
+      sure = st.sure;
+      running = st.running;
+      given = st.given;
+      clock = st.clock;
+      sent = st.sent;
+      answered = counted;
+      requests = All-taken (IsSent w.sent) s.requests place stays st.requests;
+      replies = given;
+    } in
+    let fewer = sound.few_requests in
+    let fewer' = sound.few_replies in
+    let sound' : IsSound s' = record {
+      state = subst (λ (v : World). IsStateOf v s') (sym there) state;
+      few_requests = omega (arith, length-taken s.requests place stays within);
+      few_replies = omega (arith, length-append s.replies (replied ∷ []), more);
+      small_sent = sound.small_sent;
+      small_answered = small;
+      shape = sound.shape;
+      standing = λ node p. step.stands node p ∙ sound.standing node p;
+    } in
+    let at_cell : cells_of s.replicas asked.node question.partition (id_of question.ask) ≡ w.cells asked.node question.partition (id_of question.ask) = st.cells asked.node question.partition (id_of question.ask) in
+    let stood : stands_at s.replicas asked.node question.partition ≡ stands s.shape asked.node question.partition = sound.standing asked.node question.partition in
+    let may_answer : MayAnswer n call reply = record {
+      none = λ e. step.none (stood ∙ e);
+      some = λ e. subst (λ c. Answers c question.ask reply ⊎ (reply ≡ Reply.Memory) × IsRefusal question.ask reply) at_cell (step.some (stood ∙ e));
+    } in
+    let number : slice_index n.requests place ≡ asked.number = get_or-map asked_number s.requests place asked 0 within ∙ ap asked_number (sym here) in
+    let asked_is : asked_by n (slice_index n.requests place) ≡ Some call =
+    ap (λ k. asked_of (numbered w.sent k)) number ∙ ap asked_of request_is ∙ ap (λ b. cond b (call_of (Some request)) None) asks.asks.asking ∙ called in
+    let called_at : call_at w asked.number ≡ Some call = ap call_of request_is ∙ called in
+    let reply_may : MayReply (w.doubts asked.node question.partition) (w.cells asked.node question.partition (id_of question.ask)) question.ask reply =
+    subst (λ d. MayReply d (w.cells asked.node question.partition (id_of question.ask)) question.ask reply) (sym (st.sure asked.node question.partition)) (may_run n call reply may_answer) in
+    let may : MayRun w asked.number call reply = record { sent = called_at; running = st.running asked.node; says = reply_may } in
+    let steps : Steps s s' (ran n reply (Some place) stays) = record {
+      sound = sound';
+      run = keeps s s' (record { steps = Step.Exec asked.number reply ∷ []; given = Some Event.Quiet }) sound sound' told_is ((tt, (call, may)), tt);
+      network =
+          ap (λ calls. record { shape = s.shape; calls = calls; requests = map asked_number (taken s.requests place stays); replies = map replied_number (s.replies ++ replied ∷ []) }) told_is
+          ∙ ap (λ l. record { shape = s.shape; calls = record { steps = Step.Exec asked.number reply ∷ []; given = Some Event.Quiet } ∷ calls_of s.past; requests = l; replies = map replied_number (s.replies ++ replied ∷ []) }) (map-taken asked_number s.requests place stays)
+          ∙ ap (λ l. record { shape = s.shape; calls = record { steps = Step.Exec asked.number reply ∷ []; given = Some Event.Quiet } ∷ calls_of s.past; requests = taken (map asked_number s.requests) place stays; replies = l })
+          (map-append replied_number s.replies (replied ∷ []) ∙ ap (λ k. map replied_number s.replies ++ k ∷ []) (sym st.answered))
+          ∙ ap (λ k. after_move n (record { steps = Step.Exec k reply ∷ []; event = Event.Quiet; requests = taken n.requests place stays; replies = n.replies ++ length w.replies ∷ [] })) (sym number)
+          ∙ ap (λ o. after_move n (answered n reply (slice_index n.requests place) (taken n.requests place stays) o)) (sym asked_is);
+    } in
+    record {
+      sound = sound';
+      run = steps.run;
+      runs = record {
+        reply = reply;
+        may = subst (λ o. MayGive n o reply) (sym asked_is) may_answer;
+        gave = ap (λ o. (answered n reply (slice_index n.requests place) (taken n.requests place stays) o).event) asked_is;
+        network = steps.network;
+      };
+    }
+
+-- the same call, by equal parts
+pub ran_as : {send send' : ℕ} {reply reply' : Reply} {before before' : List Called} → send ≡ send' → reply ≡ reply' → before ≡ before'
+    → record { steps = Step.Exec send reply ∷ []; given = Some Event.Quiet } ∷ before ≡ record { steps = Step.Exec send' reply' ∷ []; given = Some Event.Quiet } ∷ before'
+ran_as e f g = cc
+
+-- the same by what the code has at hand
+pub steps_answered : (s : State) (place : ℕ) (stays : Bool) (asked : Asked) (question : Question) (reply : Reply) (replicas : Standing) (requests : List Asked) (replies : List Replied) (past : Past) (count : ℕ) → IsSound s
+    → place < length s.requests → asked ≡ slice_index_or s.requests place asked → QuestionAt s place question
+    → IsAsked s.replicas asked.node question.partition question.ask reply replicas → AnswersInRange reply
+    → count ≡ s.answered + 1 → count < 2 ^ 32
+    → requests ≡ taken s.requests place stays
+    → replies ≡ s.replies ++ record { number = s.answered; node = asked.node; frame = record { correlation = question.correlation; partition = question.partition; body = Body.Answer reply } } ∷ []
+    → calls_of past ≡ record { steps = Step.Exec asked.number reply ∷ []; given = Some Event.Quiet } ∷ calls_of s.past
+    → RunsSoundly s place stays (record s { replicas = replicas; requests = requests; replies = replies; answered = count; past = past })
+steps_answered s place stays asked question reply replicas requests replies past count sound within here asks step range more small left added told_is =
+    let found : slice_get s.requests place ≡ Some asked = slice_get_read s.requests (length s.requests) place asked refl within here in
+    let reads : Reads (frame_in asked.frame) (Some question) = subst (λ o. AskedAs o question) found asks in
+    subst (λ l. RunsSoundly s place stays (record s { replicas = replicas; requests = l; replies = replies; answered = count; past = past })) (sym left)
+    (subst (λ l. RunsSoundly s place stays (record s { replicas = replicas; requests = taken s.requests place stays; replies = l; answered = count; past = past })) (sym added)
+    (steps_ran s place stays asked reads.0 question reply replicas past count sound within here reads.1 reads.2 reads.3 step range more small told_is))

@@ -1,0 +1,44 @@
+use Rattle.std.proofs.Common.{◌≡◌, None, refl, ap, sym, ◌∙◌, subst, inl, inr}
+use Rattle.cell_model.specs.declared.ask.Reply.{Reply}
+use Rattle.mem_fabric.specs.Network.{Makes, Does, place_among, runs, moved, ticked}
+use Rattle.mem_fabric.specs.Sound.{network_of}
+use Rattle.mem_fabric.proofs.Acts.{drop_makes, drop_reply_makes, hand_does, hand_again_does, makes}
+use Rattle.mem_fabric.proofs.cluster.Cluster.act.Goals as goal
+
+pub returns-in-Drop-clause-does : goal.returns-in-Drop-clause-does
+returns-in-Drop-clause-does c = subst (λ m. Makes (network_of c.args.self.now) m c.drop_at.result (network_of c.drop_at.new.self)) (sym c.in-Drop.is)
+    (drop_makes c.args.self.now c.drop_at.new.self c.place_among-in-Drop.result c.in-Drop.k c.drop_at.result (c.place_among-in-Drop.ensures.place ∙ ap (λ l. place_among c.in-Drop.k l) c.requests-requests.ensures) c.drop_at.ensures.made c.drop_at.ensures.network)
+
+pub returns-in-DropReply-clause-does : goal.returns-in-DropReply-clause-does
+returns-in-DropReply-clause-does c = subst (λ m. Makes (network_of c.args.self.now) m c.drop_reply_at.result (network_of c.drop_reply_at.new.self)) (sym c.in-DropReply.is)
+    (drop_reply_makes c.args.self.now c.drop_reply_at.new.self c.place_among-in-DropReply.result c.in-DropReply.k c.drop_reply_at.result (c.place_among-in-DropReply.ensures.place ∙ ap (λ l. place_among c.in-DropReply.k l) c.replies-replies.ensures) c.drop_reply_at.ensures.made c.drop_reply_at.ensures.network)
+
+pub returns-in-Hand-clause-does : goal.returns-in-Hand-clause-does
+returns-in-Hand-clause-does c = subst (λ m. Does (network_of c.args.self.now) m (network_of c.hand_at.new.self) c.hand_at.result) (sym c.in-Hand.is)
+    (hand_does c.args.self.now c.hand_at.new.self c.place_among-in-Hand.result c.in-Hand.k c.hand_at.result (c.place_among-in-Hand.ensures.place ∙ ap (λ l. place_among c.in-Hand.k l) c.replies-replies.ensures) c.hand_at.ensures.made c.hand_at.ensures.network c.hand_at.ensures.err)
+
+pub returns-in-HandAgain-clause-does : goal.returns-in-HandAgain-clause-does
+returns-in-HandAgain-clause-does c = subst (λ m. Does (network_of c.args.self.now) m (network_of c.hand_at-in-HandAgain.new.self) c.hand_at-in-HandAgain.result) (sym c.in-HandAgain.is)
+    (hand_again_does c.args.self.now c.hand_at-in-HandAgain.new.self c.place_among-in-HandAgain.result c.in-HandAgain.k c.hand_at-in-HandAgain.result (c.place_among-in-HandAgain.ensures.place ∙ ap (λ l. place_among c.in-HandAgain.k l) c.replies-replies.ensures) c.hand_at-in-HandAgain.ensures.made c.hand_at-in-HandAgain.ensures.network c.hand_at-in-HandAgain.ensures.err)
+
+pub returns-in-Tick-clause-does : goal.returns-in-Tick-clause-does
+returns-in-Tick-clause-does c = makes c.args.self.now c.tick.new.self c.args.chosen (ticked (network_of c.args.self.now) c.in-Tick.ms) c.tick.result
+    (rw c.in-Tick.is refl) (rw c.in-Tick.is refl) c.tick.ensures.made c.tick.ensures.network
+
+pub returns-in-Cut-clause-does : goal.returns-in-Cut-clause-does
+returns-in-Cut-clause-does c =
+    let n = network_of c.args.self.now in
+    let both : (runs n c.args.chosen ≡ None) × (moved n Reply.Memory c.args.chosen ≡ ticked n 0) = elim c.in-Cut.is [
+      | inl cut ↦ (rw cut.1 refl, rw cut.1 refl)
+      | inr h ↦ elim h [
+        | inl stop ↦ (rw stop.1 refl, rw stop.1 refl)
+        | inr k ↦ elim k [
+          | inl restart ↦ (rw restart.1 refl, rw restart.1 refl)
+          | inr l ↦ elim l [
+            | inl pull ↦ (rw pull.3 refl, rw pull.3 refl)
+            | inr compact ↦ (rw compact.2 refl, rw compact.2 refl)
+          ]
+        ]
+      ]
+    ] in
+    makes c.args.self.now c.tick-in-Cut.new.self c.args.chosen (ticked n 0) c.tick-in-Cut.result both.0 both.1 c.tick-in-Cut.ensures.made c.tick-in-Cut.ensures.network

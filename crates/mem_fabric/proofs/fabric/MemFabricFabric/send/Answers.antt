@@ -1,0 +1,19 @@
+use Rattle.mem_fabric.specs.PlayedLaws.{falls_as_plays}
+use Rattle.mem_fabric.specs.Sound.{network_of}
+use Rattle.mem_fabric.proofs.Playing.{plays_send, has_node}
+use Rattle.mem_fabric.proofs.fabric.MemFabricFabric.send.Goals as goal
+
+pub returns-in-Ok-clause-goes : goal.returns-in-Ok-clause-goes
+returns-in-Ok-clause-goes g c = λ _. (
+  plays_send (g.M.Moves.given c.args.self.now.moves) (network_of c.args.self.now.cluster) (network_of c.send.new.self) c.args.node c.args.frame.now
+      (has_node c.args.self.now.opened c.args.self.now.cluster.shape c.args.node c.requires.node) c.in-Ok.ensures.ok,
+  g.met.M.Moves.same_self c.args.self.now.moves,
+)
+
+pub returns-in-Ok-clause-falls : goal.returns-in-Ok-clause-falls
+returns-in-Ok-clause-falls g c = (
+  falls_as_plays (g.M.Moves.given c.args.self.now.moves) (network_of c.args.self.now.cluster) (g.M.Moves.given c.args.self.now.moves) (network_of c.send.new.self)
+      (plays_send (g.M.Moves.given c.args.self.now.moves) (network_of c.args.self.now.cluster) (network_of c.send.new.self) c.args.node c.args.frame.now
+      (has_node c.args.self.now.opened c.args.self.now.cluster.shape c.args.node c.requires.node) c.in-Ok.ensures.ok),
+  g.met.M.Moves.same_self c.args.self.now.moves,
+)

@@ -1,0 +1,213 @@
+-- A network in memory: what it told, what is in flight, and what a move makes of it.
+use Rattle.std.specs.Prelude.{◌≡◌, ◌⊎◌, ℕ, ◌+◌, ◌-◌, ◌%◌, ◌^◌, ◌<◌, min, ◌==◌, Bool, true, false, ◌&&◌, nat_le, nat_lt, cond, List, [], ◌∷◌, ◌++◌, length, Option, Some, None, IsSome, slice_index, remove, Result, Ok, Err}
+use Rattle.std.specs.Option.{is_some}
+use Rattle.blob_id.specs.declared.id.BlobId.{BlobId}
+use Rattle.blob_id.specs.declared.memory.Memory.{Memory}
+use Rattle.cell_model.specs.declared.ask.Ask.{Ask}
+use Rattle.cell_model.specs.declared.ask.Reply.{Reply}
+use Rattle.cell_model.specs.declared.cell.Cell.{Cell}
+use Rattle.cell_model.specs.declared.cell.Cell.TheVariants.{Absent}
+use Rattle.cell_model.specs.Asks.{id_of, Answers, IsRefusal}
+use Rattle.req_frame.specs.declared.frame.Body.{Body}
+use Rattle.req_frame.specs.declared.frame.Frame.{Frame}
+use Rattle.req_frame.specs.Spelling.{frame_text}
+use Rattle.world_model.specs.declared.moves.Move.{Move}
+use Rattle.world_model.specs.declared.moves.Move.TheVariants as moves
+use Rattle.world_model.specs.declared.shape.Shape.{Shape}
+use Rattle.world_model.specs.declared.step.Called.{Called}
+use Rattle.world_model.specs.declared.step.Event.{Event}
+use Rattle.world_model.specs.declared.step.Event.TheVariants as events
+use Rattle.world_model.specs.declared.step.Step.{Step}
+use Rattle.world_model.specs.declared.step.Step.TheVariants as steps
+use Rattle.world_model.specs.Lists.{numbered}
+use Rattle.world_model.specs.Shape.{replica_of}
+use Rattle.world_model.specs.Told.{told}
+use Rattle.world_model.specs.World.{Cells, Request, Answered, World, world, Call, call_in}
+
+-- no replica holds anything
+abbrev pub nothing_held : Cells
+nothing_held = λ n p id. Absent
+
+-- What it was opened for, what it told, and the numbers of the requests and replies in flight, the oldest of these first. Frames, replies,
+-- the clock and the cells are those of the world that was told.
+pub record Network : Type 0 where
+  pub shape : Option Shape
+  pub calls : List Called
+  pub requests : List ℕ
+  pub replies : List ℕ
+
+-- one that was never opened
+abbrev pub nothing : Network
+nothing = record { shape = None; calls = []; requests = []; replies = [] }
+
+-- the world that it told
+abbrev pub world_of : Network → World
+world_of n = world nothing_held (told n.calls)
+
+-- what a move does, and what is in flight afterwards
+pub record Moved : Type 0 where
+  pub steps : List Step
+  pub event : Event
+  pub requests : List ℕ
+  pub replies : List ℕ
+
+-- the place that a number names, where there are so many
+abbrev pub place_among : ℕ → ℕ → Option ℕ
+place_among k count = cond (count == 0) None (Some (k % count))
+
+-- a place lies below a count
+abbrev pub Within : Option ℕ → ℕ → Type 0
+Within None count = Unit {0}
+Within (Some place) count = place < count
+
+-- what is in flight after one at a place was taken out, or stayed
+abbrev pub taken : {A : Type 0} → List A → ℕ → Bool → List A
+taken items place stays = cond stays items (remove items place)
+
+-- whether a frame asks something of a replica; fetches aren't exchanged
+abbrev pub is_asking : Body → Bool
+is_asking (Body.Put id blob) = true
+is_asking (Body.Get id) = true
+is_asking (Body.Peek id) = true
+is_asking (Body.Delete id at) = true
+is_asking (Body.Fetch id) = false
+is_asking (Body.Answer reply) = false
+
+-- what a frame asks of a replica, at a node
+abbrev pub asked_in : ℕ → Option Frame → Option Call
+asked_in node None = None
+asked_in node (Some f) = cond (is_asking f.body) (call_in node (Some f)) None
+
+-- what a request asks of a replica, where it asks something
+abbrev pub asked_of : Option Request → Option Call
+asked_of None = None
+asked_of (Some request) = asked_in request.node request.frame
+
+-- what the request of a number asks
+abbrev pub asked_by : Network → ℕ → Option Call
+asked_by n send = asked_of (numbered (world_of n).sent send)
+
+-- the clock goes on, and stays at its end
+abbrev pub ticked : Network → ℕ → Moved
+ticked n ms =
+    let moment = min ((world_of n).clock + ms) (2 ^ 64 - 1) in
+    record { steps = steps.Now moment ∷ []; event = events.Now moment; requests = n.requests; replies = n.replies }
+
+-- nothing comes of it but what is in flight then
+abbrev pub quiet : List ℕ → List ℕ → Moved
+quiet requests replies = record { steps = []; event = events.Quiet; requests = requests; replies = replies }
+
+-- a request is run: one that asks something is given this reply, which is in flight from then on
+abbrev pub answered : Network → Reply → ℕ → List ℕ → Option Call → Moved
+answered n reply send requests None = quiet requests n.replies
+answered n reply send requests (Some call) = record {
+  steps = steps.Exec send reply ∷ [];
+  event = events.Quiet;
+  requests = requests;
+  replies = n.replies ++ length (world_of n).replies ∷ [];
+}
+
+abbrev pub ran : Network → Reply → Option ℕ → Bool → Moved
+ran n reply None stays = ticked n 0
+ran n reply (Some place) stays =
+    let send = slice_index n.requests place in
+    answered n reply send (taken n.requests place stays) (asked_by n send)
+
+-- the frame of a reply to a frame
+abbrev pub reply_text : Frame → Reply → List ℕ
+reply_text asked reply = frame_text (record { correlation = asked.correlation; partition = asked.partition; body = Body.Answer reply })
+
+abbrev pub reply_from : ℕ → Option Frame → Reply → Event
+reply_from node None reply = events.Quiet
+reply_from node (Some asked) reply = events.Reply node (reply_text asked reply)
+
+-- the event of a reply that comes to the router
+abbrev pub reply_event : Option Answered → Event
+reply_event None = events.Quiet
+reply_event (Some answer) = reply_from answer.request.node answer.request.frame answer.reply
+
+abbrev pub handed : Network → Option ℕ → Bool → Moved
+handed n None stays = ticked n 0
+handed n (Some place) stays =
+    let reply = slice_index n.replies place in
+    record {
+      steps = steps.Hand reply ∷ [];
+      event = reply_event (numbered (world_of n).replies reply);
+      requests = n.requests;
+      replies = taken n.replies place stays;
+    }
+
+abbrev pub dropped : Network → Option ℕ → Moved
+dropped n None = ticked n 0
+dropped n (Some place) = quiet (taken n.requests place false) n.replies
+
+abbrev pub dropped_reply : Network → Option ℕ → Moved
+dropped_reply n None = ticked n 0
+dropped_reply n (Some place) = quiet n.requests (taken n.replies place false)
+
+-- What a move does; this is the reply, where it runs a request that asks something. Other moves are those on nothing.
+abbrev pub moved : Network → Reply → Move → Moved
+moved n reply (moves.Run k) = ran n reply (place_among k (length n.requests)) false
+moved n reply (moves.RunAgain k) = ran n reply (place_among k (length n.requests)) true
+moved n reply (moves.Drop k) = dropped n (place_among k (length n.requests))
+moved n reply (moves.Hand k) = handed n (place_among k (length n.replies)) false
+moved n reply (moves.HandAgain k) = handed n (place_among k (length n.replies)) true
+moved n reply (moves.DropReply k) = dropped_reply n (place_among k (length n.replies))
+moved n reply (moves.Tick ms) = ticked n ms
+moved n reply _ = ticked n 0
+
+-- the network after a move, told as one call
+abbrev pub after_move : Network → Moved → Network
+after_move n m = record n { calls = record { steps = m.steps; given = Some m.event } ∷ n.calls; requests = m.requests; replies = m.replies }
+
+-- what the request at a place asks
+abbrev pub runs_at : Network → Option ℕ → Option Call
+runs_at n None = None
+runs_at n (Some place) = asked_by n (slice_index n.requests place)
+
+-- what a move asks of a replica
+abbrev pub runs : Network → Move → Option Call
+runs n (moves.Run k) = runs_at n (place_among k (length n.requests))
+runs n (moves.RunAgain k) = runs_at n (place_among k (length n.requests))
+runs n _ = None
+
+-- a replica of the partition stands on the node
+abbrev pub has_replica : Shape → ℕ → ℕ → Bool
+has_replica shape node partition = nat_lt partition shape.partitions && is_some (replica_of shape partition node)
+
+abbrev pub stands : Option Shape → ℕ → ℕ → Bool
+stands None node partition = false
+stands (Some shape) node partition = has_replica shape node partition
+
+-- A node without such a replica says so. Any other replies what the table says at the cell, or that memory ran out.
+pub record MayAnswer (n : Network) (call : Call) (reply : Reply) : Type 0 where
+  pub none : stands n.shape call.node call.partition ≡ false → reply ≡ Reply.NoPartition
+  pub some : stands n.shape call.node call.partition ≡ true
+      → Answers ((world_of n).cells call.node call.partition (id_of call.ask)) call.ask reply ⊎ (reply ≡ Reply.Memory) × IsRefusal call.ask reply
+
+abbrev pub MayGive : Network → Option Call → Reply → Type 0
+MayGive n None reply = Unit {0}
+MayGive n (Some call) reply = MayAnswer n call reply
+
+-- the move was made, and its event given
+pub record Makes (old : Network) (chosen : Move) (event : Event) (new : Network) : Type 0 where
+  pub reply : Reply
+  pub may : MayGive old (runs old chosen) reply
+  pub gave : (moved old reply chosen).event ≡ event
+  pub network : new ≡ after_move old (moved old reply chosen)
+
+-- the move was made, or for want of memory nothing was done
+abbrev pub Does : Network → Move → Network → Result Event Memory → Type 0
+Does old chosen new (Ok event) = Makes old chosen event new
+Does old chosen new (Err memory) = new ≡ old
+
+-- the network after an opening
+abbrev pub after_open : Network → Shape → Network
+after_open n shape = record n { shape = Some shape; calls = record { steps = []; given = None } ∷ n.calls }
+
+-- the network after a request was sent
+abbrev pub after_send : Network → ℕ → List ℕ → Network
+after_send n node frame = record n {
+  calls = record { steps = steps.Send 0 node frame ∷ []; given = None } ∷ n.calls;
+  requests = n.requests ++ length (world_of n).sent ∷ [];
+}

@@ -1,0 +1,84 @@
+-- What is done to a network in memory, act by act, and which moves that takes.
+use Rattle.std.specs.Prelude.{◌≡◌, ℕ, List, [], ◌∷◌, ◌++◌, Option, Some, None, IsSome}
+use Rattle.cell_model.specs.declared.ask.Reply.{Reply}
+use Rattle.world_model.specs.declared.moves.Move.{Move}
+use Rattle.world_model.specs.declared.shape.Shape.{Shape}
+use Rattle.world_model.specs.declared.step.Called.{Called}
+use Rattle.world_model.specs.Fabric.{HasNode}
+use Rattle.mem_fabric.specs.Network.{Network, nothing, moved, runs, MayGive, after_open, after_send, after_move}
+
+-- One call on a network. A move that runs a request has its reply with it. A call that found no memory did nothing, though it may have
+-- been given a move.
+pub data Act : Type 0 where
+  Opens : Shape → Act
+  Sends : (node : ℕ) → (frame : List ℕ) → Act
+  Moves : Move → Reply → Act
+  Fails : Option Move → Act
+
+abbrev pub acted : Network → Act → Network
+acted n (Opens shape) = after_open n shape
+acted n (Sends node frame) = after_send n node frame
+acted n (Moves chosen reply) = after_move n (moved n reply chosen)
+acted n (Fails chosen) = n
+
+-- the act may come next: opening comes once, and before all others that do something
+abbrev pub MayAct : Network → Act → Type 0
+MayAct n (Opens shape) = n ≡ nothing
+MayAct n (Sends node frame) = HasNode n.shape node
+MayAct n (Moves chosen reply) = IsSome n.shape × MayGive n (runs n chosen) reply
+MayAct n (Fails chosen) = Unit {0}
+
+-- the network after acts, the newest first
+abbrev pub all_acted : Network → List Act → Network
+all_acted n [] = n
+all_acted n (act ∷ before) = acted (all_acted n before) act
+
+abbrev pub AllMay : Network → List Act → Type 0
+AllMay n [] = Unit {0}
+AllMay n (act ∷ before) = AllMay n before × MayAct (all_acted n before) act
+
+abbrev pub list_of : {A : Type 0} → Option A → List A
+list_of None = []
+list_of (Some x) = x ∷ []
+
+-- one more move was given at most
+abbrev pub AtMostOne : List Move → List Move → Type 0
+AtMostOne given given' = (chosen : Option Move) × (given' ≡ given ++ list_of chosen)
+
+abbrev pub move_in : Act → List Move
+move_in (Moves chosen reply) = chosen ∷ []
+move_in (Fails chosen) = list_of chosen
+move_in _ = []
+
+-- the moves that acts took, in order
+abbrev pub moves_of : List Act → List Move
+moves_of [] = []
+moves_of (act ∷ before) = moves_of before ++ move_in act
+
+abbrev pub DidAll : List Act → Type 0
+DidAll [] = Unit {0}
+DidAll (Fails chosen ∷ before) = ⊥
+DidAll (act ∷ before) = DidAll before
+
+-- by these acts, which took the moves that were given meanwhile, one network became the other
+pub record PlaysBy (acts : List Act) (given : List Move) (n : Network) (given' : List Move) (n' : Network) : Type 0 where
+  pub moves : given' ≡ given ++ moves_of acts
+  pub may : AllMay n acts
+  pub network : n' ≡ all_acted n acts
+
+-- each move that was given was made, once and in order
+abbrev pub Plays : List Move → Network → List Move → Network → Type 0
+Plays given n given' n' = (acts : List Act) × DidAll acts × PlaysBy acts given n given' n'
+
+-- each call made the move that it was given, or found no memory and did nothing
+abbrev pub Falls : List Move → Network → List Move → Network → Type 0
+Falls given n given' n' = (acts : List Act) × PlaysBy acts given n given' n'
+
+-- the calls told are those of one opening for the shape, of sends, and of just these moves, in order and by the rule of moves
+pub record IsPlayed (shape : Shape) (moves : List Move) (calls : List Called) : Type 0 where
+  pub acts : List Act
+  pub did : DidAll acts
+  pub may : AllMay nothing acts
+  pub took : moves ≡ moves_of acts
+  pub opened : (all_acted nothing acts).shape ≡ Some shape
+  pub told : calls ≡ (all_acted nothing acts).calls

@@ -1,0 +1,111 @@
+-- What the nodes and what is in flight have to do with what was told.
+use Rattle.std.specs.Prelude.{◌≡◌, ℕ, ◌<◌, ◌≤◌, ◌^◌, Bool, true, false, List, [], length, map, All, slice_get, Option, Some, None}
+use Rattle.blob_id.specs.declared.id.BlobId.{BlobId}
+use Rattle.cell_model.specs.declared.ask.Reply.{Reply}
+use Rattle.req_frame.specs.declared.frame.Body.{Body}
+use Rattle.req_frame.specs.declared.frame.Frame.{Frame}
+use Rattle.req_frame.specs.Spelling.{IsFrame}
+use Rattle.mem_fabric.specs.Asking.{Reads}
+use Rattle.mem_fabric.specs.declared.asking.Question.{Question}
+use Rattle.mem_fabric.specs.declared.flight.Asked.{Asked}
+use Rattle.mem_fabric.specs.declared.flight.Replied.{Replied}
+use Rattle.mem_fabric.specs.declared.past.Past.{Past, Begun}
+use Rattle.mem_fabric.specs.Slots.{Standing}
+use Rattle.mem_fabric.specs.Network.{Network, nothing_held, stands, MayGive, runs_at, ran, after_move}
+use Rattle.mem_fabric.specs.Past.{calls_of}
+use Rattle.mem_fabric.specs.Standing.{stands_at, cells_of, none_standing}
+use Rattle.world_model.specs.declared.shape.Shape.{Shape}
+use Rattle.world_model.specs.declared.step.Event.{Event}
+use Rattle.world_model.specs.Fabric.{Image, KeepsRun}
+use Rattle.world_model.specs.Frames.{frame_in}
+use Rattle.world_model.specs.Lists.{numbered}
+use Rattle.world_model.specs.Shape.{IsShape}
+use Rattle.world_model.specs.Told.{told}
+use Rattle.world_model.specs.World.{World, Request, Answered, world}
+
+-- the nodes, what is in flight, the counts, the clock, and what was told
+pub record State : Type 0 where
+  pub shape : Option Shape
+  pub replicas : Standing
+  pub requests : List Asked
+  pub replies : List Replied
+  pub sent : ℕ
+  pub answered : ℕ
+  pub clock : ℕ
+  pub past : Past
+
+-- never opened
+abbrev pub fresh_state : State
+fresh_state = record { shape = None; replicas = none_standing; requests = []; replies = []; sent = 0; answered = 0; clock = 0; past = Begun }
+
+-- the world that was told
+abbrev pub told_world : Past → World
+told_world past = world nothing_held (told (calls_of past))
+
+-- a request in flight is one of the router's that was sent
+abbrev pub IsSent : List Request → Asked → Type 0
+IsSent sent asked = numbered sent asked.number ≡ Some (record { from = 0; node = asked.node; frame = frame_in asked.frame })
+
+-- a reply in flight is one that was given to the router
+pub record IsGiven (given : List Answered) (replied : Replied) : Type 0 where
+  pub asked : Frame
+  pub reply : Reply
+  pub is : numbered given replied.number ≡ Some (record { request = record { from = 0; node = replied.node; frame = Some asked }; reply = reply })
+  pub frame : replied.frame ≡ record { correlation = asked.correlation; partition = asked.partition; body = Body.Answer reply }
+  pub spelled : IsFrame replied.frame
+
+-- The state is that of a world in which each event was given, no node is stopped and nothing is in doubt.
+pub record IsStateOf (w : World) (s : State) : Type 0 where
+  pub cells : (n p : ℕ) (id : BlobId) → cells_of s.replicas n p id ≡ w.cells n p id
+  pub sure : (n p : ℕ) → w.doubts n p ≡ None
+  pub running : (n : ℕ) → w.stopped n ≡ false
+  pub given : w.waiting ≡ []
+  pub clock : w.clock ≡ s.clock
+  pub sent : length w.sent ≡ s.sent
+  pub answered : length w.replies ≡ s.answered
+  pub requests : All (IsSent w.sent) s.requests
+  pub replies : All (IsGiven w.replies) s.replies
+
+-- what holds at any time
+pub record IsSound (s : State) : Type 0 where
+  pub state : IsStateOf (told_world s.past) s
+  pub few_requests : length s.requests ≤ s.sent
+  pub few_replies : length s.replies ≤ s.answered
+  pub small_sent : s.sent < 2 ^ 32
+  pub small_answered : s.answered < 2 ^ 32
+  pub shape : (shape : Shape) → s.shape ≡ Some shape → IsShape shape
+  pub standing : (n p : ℕ) → stands_at s.replicas n p ≡ stands s.shape n p
+
+abbrev pub asked_number : Asked → ℕ
+asked_number asked = asked.number
+
+abbrev pub replied_number : Replied → ℕ
+replied_number replied = replied.number
+
+-- the state as a network
+abbrev pub network_of : State → Network
+network_of s = record { shape = s.shape; calls = calls_of s.past; requests = map asked_number s.requests; replies = map replied_number s.replies }
+
+-- what the replicas hold: nothing is in doubt, and no node is stopped
+abbrev pub image_of : State → Image
+image_of s = record { cells = cells_of s.replicas; doubts = λ n p. None; stopped = λ n. false }
+
+-- what is told stays a run that leads to what the replicas hold
+abbrev pub KeepsState : State → State → Type 0
+KeepsState old new = KeepsRun (Some (calls_of old.past)) (Some (image_of old)) (Some (calls_of new.past)) (Some (image_of new))
+
+-- the frame of a request asks this
+abbrev pub AskedAs : Option Asked → Question → Type 0
+AskedAs None question = ⊥
+AskedAs (Some asked) question = Reads (frame_in asked.frame) (Some question)
+
+-- the request at a place asks this
+abbrev pub QuestionAt : State → ℕ → Question → Type 0
+QuestionAt s place question = AskedAs (slice_get s.requests place) question
+
+-- the request at a place was run, and its event given; without a place a move on nothing was done
+pub record RunsRequest (old : State) (place : Option ℕ) (stays : Bool) (event : Event) (new : State) : Type 0 where
+  pub reply : Reply
+  pub may : MayGive (network_of old) (runs_at (network_of old) place) reply
+  pub gave : (ran (network_of old) reply place stays).event ≡ event
+  pub network : network_of new ≡ after_move (network_of old) (ran (network_of old) reply place stays)

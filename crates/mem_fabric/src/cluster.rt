@@ -1,0 +1,353 @@
+//! The nodes and what is in flight between them and the router.
+
+ghost use Rattle.std.specs.Prelude.{false, ◌≡◌, ◌<◌, ◌≤◌, length, vec_len, Some, OnOk, OnErr, IfOk, IfSome};
+ghost use Rattle.mem_fabric.specs.Network.{Network, nothing, after_open, after_send, after_move, moved, ticked, dropped, dropped_reply, handed, quiet, taken, Makes, Does, Within};
+ghost use Rattle.mem_fabric.specs.Sound.{State, fresh_state, network_of, KeepsState, QuestionAt, RunsRequest};
+ghost use Rattle.mem_fabric.specs.Past.{calls_of};
+ghost use Rattle.world_model.specs.Fabric.{Awaits};
+ghost use Rattle.world_model.specs.Shape.{IsShape};
+
+use crate::asking::{Question, question_in};
+use crate::flight::{Asked, Replied, add, place_among, push, take_out};
+use crate::past::Past;
+use crate::replicas::Replicas;
+use blob_id::{Bytes, Memory};
+use req_frame::{Body, Frame, encode};
+use std::alloc::Global;
+use std::marker::Model;
+use std::snapshot::Snapshot;
+use world_model::{Event, Move, Shape};
+
+/// The nodes with their replicas, what is in flight, how many requests were sent and replies given, the clock, and what was told.
+#[derive(Drop)]
+pub struct Cluster {
+    alloc: Global,
+    shape: Option<Shape>,
+    replicas: Replicas,
+    requests: Vec<Asked>,
+    replies: Vec<Replied>,
+    sent: u32,
+    answered: u32,
+    clock: u64,
+    past: Past,
+}
+
+impl Model for Cluster {
+    ghost use Rattle.mem_fabric.specs.Sound.{State, IsSound};
+    ghost use Rattle.cell_model.specs.contracts.plain.PlainReplica as replica;
+    ghost use Rattle.mem_fabric.specs.contracts.past.Past as told;
+    ghost use Rattle.std.specs.Coded.{codes};
+
+    ghost Value = { State };
+
+    ghost coded = { Prim.hlevel (codes, replica.the_row.coded, told.the_row.coded) };
+
+    ghost view = { λ a. record {
+      shape = a.shape;
+      replicas = a.replicas;
+      requests = a.requests.items;
+      replies = a.replies.items;
+      sent = a.sent;
+      answered = a.answered;
+      clock = a.clock;
+      past = a.past;
+    } };
+
+    ghost invariant = { λ a. IsSound (record {
+      shape = a.shape;
+      replicas = a.replicas;
+      requests = a.requests.items;
+      replies = a.replies.items;
+      sent = a.sent;
+      answered = a.answered;
+      clock = a.clock;
+      past = a.past;
+    }) };
+}
+
+impl Cluster {
+    /// No node, and no call told. It takes no memory.
+    pub fn new(alloc: Global) -> Cluster
+        ensures { result ≡ fresh_state }
+    {
+        Cluster {
+            alloc,
+            shape: None,
+            replicas: Replicas::new(alloc),
+            requests: Vec::new(alloc),
+            replies: Vec::new(alloc),
+            sent: 0,
+            answered: 0,
+            clock: 0,
+            past: Past::Begun,
+        }
+    }
+
+    /// Makes the nodes of a shape.
+    pub fn open(&mut self, shape: &Shape) -> Result<(), Memory>
+        requires shape { IsShape shape.now }
+        requires fresh { self.old ≡ fresh_state }
+        ensures ok { OnOk result (network_of self.new ≡ after_open (network_of self.old) shape.now) }
+        ensures err { OnErr result (self.new ≡ self.old) }
+        ensures run { KeepsState self.old self.new }
+    {
+        self.replicas = Replicas::open(self.alloc, shape)?;
+        self.shape = Some(*shape);
+        self.past = Past::Opened(Snapshot::of(&self.past));
+        Ok(())
+    }
+
+    /// The shape that it was opened for.
+    pub fn shape(&self) -> Option<Shape>
+        ensures value { result ≡ self.now.shape }
+        ensures shape { IfSome result (λ shape. IsShape shape) }
+    {
+        self.shape
+    }
+
+    /// How many events were made and not given: none, since each is given at once.
+    pub fn queued(&self) -> u32
+        ensures { Awaits (Some (calls_of self.now.past)) result }
+    {
+        // The past is looked at, so that a proof knows what holds of it.
+        let _past = &self.past;
+        0
+    }
+
+    /// How many requests are in flight.
+    pub fn requests(&self) -> u32
+        ensures { result ≡ length self.now.requests }
+    {
+        self.requests.len() as u32
+    }
+
+    /// How many replies are in flight.
+    pub fn replies(&self) -> u32
+        ensures { result ≡ length self.now.replies }
+    {
+        self.replies.len() as u32
+    }
+
+    /// Sends a frame to a node.
+    pub fn send(&mut self, node: u32, frame: &[u8]) -> Result<(), Memory>
+        ensures ok { OnOk result (network_of self.new ≡ after_send (network_of self.old) node frame.now) }
+        ensures err { OnErr result (self.new ≡ self.old) }
+        ensures run { KeepsState self.old self.new }
+    {
+        let Some(sent) = self.sent.checked_add(1) else {
+            return Err(Memory);
+        };
+        let frame = Bytes::copy_of(self.alloc, frame)?;
+        let past = Past::Sent(
+            Snapshot::of(&self.past),
+            Snapshot::of(&node),
+            Snapshot::of(&frame),
+        );
+        let number = self.sent;
+        push(
+            &mut self.requests,
+            Asked {
+                number,
+                node,
+                frame,
+            },
+        )?;
+        self.sent = sent;
+        self.past = past;
+        Ok(())
+    }
+
+    /// So many ms go by.
+    fn tick(&mut self, ms: u64) -> Event
+        ensures made { (ticked (network_of self.old) ms).event ≡ result }
+        ensures network { network_of self.new ≡ after_move (network_of self.old) (ticked (network_of self.old) ms) }
+        ensures run { KeepsState self.old self.new }
+    {
+        self.clock = self.clock.saturating_add(ms);
+        self.past = Past::Now(Snapshot::of(&self.past), Snapshot::of(&self.clock));
+        Event::Now { ms: self.clock }
+    }
+
+    /// The request at a place comes to nothing.
+    fn leave_request(&mut self, place: usize, stays: bool) -> Event
+        requires { place < length self.old.requests }
+        ensures quiet { result ≡ Event.Quiet }
+        ensures network { network_of self.new ≡ after_move (network_of self.old) (quiet (taken (network_of self.old).requests place stays) (network_of self.old).replies) }
+        ensures run { KeepsState self.old self.new }
+    {
+        take_out(&mut self.requests, place, stays);
+        self.past = Past::Quiet(Snapshot::of(&self.past));
+        Event::Quiet
+    }
+
+    /// The reply at a place is lost.
+    fn drop_reply(&mut self, place: usize) -> Event
+        requires { place < length self.old.replies }
+        ensures quiet { result ≡ Event.Quiet }
+        ensures network { network_of self.new ≡ after_move (network_of self.old) (quiet (network_of self.old).requests (taken (network_of self.old).replies place false)) }
+        ensures run { KeepsState self.old self.new }
+    {
+        take_out(&mut self.replies, place, false);
+        self.past = Past::Quiet(Snapshot::of(&self.past));
+        Event::Quiet
+    }
+
+    /// The reply at a place comes.
+    fn hand(&mut self, place: usize, stays: bool) -> Result<Event, Memory>
+        requires { place < length self.old.replies }
+        ensures made { IfOk result (λ event. (handed (network_of self.old) (Some place) stays).event ≡ event) }
+        ensures network { OnOk result (network_of self.new ≡ after_move (network_of self.old) (handed (network_of self.old) (Some place) stays)) }
+        ensures err { OnErr result (self.new ≡ self.old) }
+        ensures run { KeepsState self.old self.new }
+    {
+        let reply = &self.replies[place];
+        let node = reply.node;
+        let number = reply.number;
+        let frame = encode(self.alloc, &reply.frame)?;
+        self.past = Past::Handed(
+            Snapshot::of(&self.past),
+            Snapshot::of(&number),
+            Snapshot::of(&node),
+            Snapshot::of(&frame),
+        );
+        take_out(&mut self.replies, place, stays);
+        Ok(Event::Reply { node, frame })
+    }
+
+    /// The request at a place, which asks this, is run.
+    fn answer(&mut self, place: usize, stays: bool, question: Question) -> Result<Event, Memory>
+        requires place { place < length self.old.requests }
+        requires asked { QuestionAt self.old place question }
+        ensures made { IfOk result (λ event. RunsRequest self.old (Some place) stays event self.new) }
+        ensures err { OnErr result (self.new ≡ self.old) }
+        ensures run { KeepsState self.old self.new }
+    {
+        let Some(answered) = self.answered.checked_add(1) else {
+            return Err(Memory);
+        };
+        // What the replica answers is kept in any case, so there is room for it before it is asked.
+        self.replies.reserve(1)?;
+        let Question {
+            correlation,
+            partition,
+            ask,
+        } = question;
+        let request = &self.requests[place];
+        let node = request.node;
+        let number = request.number;
+        let reply = self.replicas.ask(node, partition, ask);
+        self.past = Past::Ran(
+            Snapshot::of(&self.past),
+            Snapshot::of(&number),
+            Snapshot::of(&reply),
+        );
+        let body = Body::Answer(reply);
+        let frame = Frame {
+            correlation,
+            partition,
+            body,
+        };
+        let number = self.answered;
+        add(
+            &mut self.replies,
+            Replied {
+                number,
+                node,
+                frame,
+            },
+        );
+        self.answered = answered;
+        take_out(&mut self.requests, place, stays);
+        Ok(Event::Quiet)
+    }
+
+    /// The request at a place is run.
+    fn run(&mut self, place: usize, stays: bool) -> Result<Event, Memory>
+        requires { place < length self.old.requests }
+        ensures made { IfOk result (λ event. RunsRequest self.old (Some place) stays event self.new) }
+        ensures err { OnErr result (self.new ≡ self.old) }
+        ensures run { KeepsState self.old self.new }
+    {
+        match question_in(self.alloc, self.requests[place].frame.as_slice())? {
+            Some(question) => self.answer(place, stays, question),
+            None => Ok(self.leave_request(place, stays)),
+        }
+    }
+
+    /// The request at a place is run, or a move on nothing is done.
+    fn run_at(&mut self, place: Option<usize>, stays: bool) -> Result<Event, Memory>
+        requires { Within place (length self.old.requests) }
+        ensures made { IfOk result (λ event. RunsRequest self.old place stays event self.new) }
+        ensures err { OnErr result (self.new ≡ self.old) }
+        ensures run { KeepsState self.old self.new }
+    {
+        match place {
+            Some(place) => self.run(place, stays),
+            None => Ok(self.tick(0)),
+        }
+    }
+
+    /// The request at a place is lost, or a move on nothing is done.
+    fn drop_at(&mut self, place: Option<usize>) -> Event
+        requires { Within place (length self.old.requests) }
+        ensures made { (dropped (network_of self.old) place).event ≡ result }
+        ensures network { network_of self.new ≡ after_move (network_of self.old) (dropped (network_of self.old) place) }
+        ensures run { KeepsState self.old self.new }
+    {
+        match place {
+            Some(place) => self.leave_request(place, false),
+            None => self.tick(0),
+        }
+    }
+
+    /// The reply at a place comes, or a move on nothing is done.
+    fn hand_at(&mut self, place: Option<usize>, stays: bool) -> Result<Event, Memory>
+        requires { Within place (length self.old.replies) }
+        ensures made { IfOk result (λ event. (handed (network_of self.old) place stays).event ≡ event) }
+        ensures network { OnOk result (network_of self.new ≡ after_move (network_of self.old) (handed (network_of self.old) place stays)) }
+        ensures err { OnErr result (self.new ≡ self.old) }
+        ensures run { KeepsState self.old self.new }
+    {
+        match place {
+            Some(place) => self.hand(place, stays),
+            None => Ok(self.tick(0)),
+        }
+    }
+
+    /// The reply at a place is lost, or a move on nothing is done.
+    fn drop_reply_at(&mut self, place: Option<usize>) -> Event
+        requires { Within place (length self.old.replies) }
+        ensures made { (dropped_reply (network_of self.old) place).event ≡ result }
+        ensures network { network_of self.new ≡ after_move (network_of self.old) (dropped_reply (network_of self.old) place) }
+        ensures run { KeepsState self.old self.new }
+    {
+        match place {
+            Some(place) => self.drop_reply(place),
+            None => self.tick(0),
+        }
+    }
+
+    /// Does one move.
+    pub fn act(&mut self, chosen: Move) -> Result<Event, Memory>
+        ensures does { Does (network_of self.old) chosen (network_of self.new) result }
+        ensures err { OnErr result (self.new ≡ self.old) }
+        ensures run { KeepsState self.old self.new }
+    {
+        let requests = self.requests();
+        let replies = self.replies();
+        match chosen {
+            Move::Run(k) => self.run_at(place_among(k, requests), false),
+            Move::RunAgain(k) => self.run_at(place_among(k, requests), true),
+            Move::Drop(k) => Ok(self.drop_at(place_among(k, requests))),
+            Move::Hand(k) => self.hand_at(place_among(k, replies), false),
+            Move::HandAgain(k) => self.hand_at(place_among(k, replies), true),
+            Move::DropReply(k) => Ok(self.drop_reply_at(place_among(k, replies))),
+            Move::Tick(ms) => Ok(self.tick(ms)),
+            Move::Cut(_)
+            | Move::Stop(_)
+            | Move::Restart(_)
+            | Move::Pull(_, _, _)
+            | Move::Compact(_, _) => Ok(self.tick(0)),
+        }
+    }
+}

@@ -1,0 +1,62 @@
+//! What is in flight.
+
+ghost use Rattle.std.specs.Prelude.{◌≡◌, ◌<◌, ◌++◌, ◌∷◌, [], vec_len, vec_capacity, OnOk, OnErr};
+ghost use Rattle.mem_fabric.specs.Network.{Within, place_among, taken};
+
+use blob_id::{Bytes, Memory};
+use req_frame::Frame;
+
+/// A request in flight: its number, the node that it goes to, and its bytes.
+#[derive(Drop)]
+pub struct Asked {
+    pub number: u32,
+    pub node: u32,
+    pub frame: Bytes,
+}
+
+/// A reply in flight: its number, the node that it comes from, and its frame, which is spelled when it is handed.
+#[derive(Drop)]
+pub struct Replied {
+    pub number: u32,
+    pub node: u32,
+    pub frame: Frame,
+}
+
+/// The place that a number names, where there are so many.
+pub fn place_among(k: u32, count: u32) -> Option<usize>
+    ensures place { result ≡ place_among k count }
+    ensures within { Within result count }
+{
+    if count == 0 {
+        None
+    } else {
+        Some((k % count) as usize)
+    }
+}
+
+/// Takes the one at a place out, unless it stays.
+pub fn take_out<T: Drop>(items: &mut Vec<T>, place: usize, stays: bool)
+    requires { place < vec_len items.old }
+    ensures { items.new.items ≡ taken items.old.items place stays }
+{
+    if !stays {
+        let _ = items.remove(place);
+    }
+}
+
+/// Adds one, for which there is room.
+pub fn add<T: Drop>(items: &mut Vec<T>, item: T)
+    requires { vec_len items.old < vec_capacity items.old }
+    ensures { items.new.items ≡ items.old.items ++ item ∷ [] }
+{
+    let _ = items.push(item);
+}
+
+/// Adds one, where there is memory.
+pub fn push<T: Drop>(items: &mut Vec<T>, item: T) -> Result<(), Memory>
+    ensures ok { OnOk result (items.new.items ≡ items.old.items ++ item ∷ []) }
+    ensures err { OnErr result (items.new.items ≡ items.old.items) }
+{
+    items.push(item)?;
+    Ok(())
+}

@@ -1,0 +1,24 @@
+//! What holds of every network in memory. The function does nothing: its contract is the law.
+
+ghost use Rattle.std.specs.Prelude.{◌≡◌, ◌++◌, List, Some, true};
+ghost use Rattle.mem_fabric.specs.declared.fabric.MemFabric.{MemFabric};
+ghost use Rattle.mem_fabric.specs.Played.{IsPlayed};
+ghost use Rattle.world_model.specs.declared.moves.Move.{Move};
+ghost use Rattle.world_model.specs.declared.shape.Shape.{Shape};
+ghost use Rattle.world_model.specs.declared.step.Called.{Called};
+
+use crate::fabric::MemFabric;
+use world_model::{Fabric, Moves};
+
+/// Where a network that was never opened became one that is open for a shape, and this a later one, each by calls that were
+/// answered, the calls told are those of the opening, of sends, and of the moves that were given meanwhile, each made once, in
+/// order and by the rule of moves.
+pub fn what_is_told_was_played<M: Moves>()
+    ensures { (a b d : MemFabric M) (shape : Shape) (calls : List Called)
+        → ⟦<MemFabric<M> as Fabric>⟧.fresh a ≡ true
+        → ⟦<MemFabric<M> as Fabric>⟧.goes a b
+        → ⟦<MemFabric<M> as Fabric>⟧.opened b ≡ Some shape
+        → ⟦<MemFabric<M> as Fabric>⟧.goes b d
+        → ⟦<MemFabric<M> as Fabric>⟧.told d ≡ Some calls
+        → (moves : List Move) × (M.given d.moves ≡ M.given a.moves ++ moves) × IsPlayed shape moves calls }
+{}

@@ -1,0 +1,23 @@
+//! What a network did so far, for clauses alone.
+
+use blob_id::Bytes;
+use cell_model::Reply;
+use std::snapshot::Snapshot;
+
+/// What was told, call by call, the last one outside. It has no bytes: only clauses read it.
+#[derive(Drop)]
+pub enum Past {
+    /// No call was told.
+    Begun,
+    Opened(Snapshot<Past>),
+    /// A request to a node.
+    Sent(Snapshot<Past>, Snapshot<u32>, Snapshot<Bytes>),
+    /// The clock came to this.
+    Now(Snapshot<Past>, Snapshot<u64>),
+    /// Nothing came of a move.
+    Quiet(Snapshot<Past>),
+    /// The request of a number was run, with this reply.
+    Ran(Snapshot<Past>, Snapshot<u32>, Snapshot<Reply>),
+    /// The reply of a number came from a node.
+    Handed(Snapshot<Past>, Snapshot<u32>, Snapshot<u32>, Snapshot<Bytes>),
+}
