@@ -1,0 +1,9 @@
+pub mod TieLaws
+pub mod StageLaws
+pub mod LiveLaws
+pub mod AskLaws
+pub mod SendLaws
+pub mod BeginLaws
+pub mod TurnLaws
+pub mod EndLaws
+pub mod RefusalLaws

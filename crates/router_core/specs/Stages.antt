@@ -1,0 +1,44 @@
+-- Where a router stands that has one operation at a time. All lists have the newest item first.
+use Rattle.std.specs.Prelude.{◌≡◌, ℕ, ◌+◌, ◌*◌, ◌^◌, ◌<◌, ◌≤◌, false, ◌⊎◌}
+use Rattle.quorum_op.specs.declared.outcome.Outcome.{Outcome}
+use Rattle.world_model.specs.declared.history.Begun.{Begun}
+use Rattle.world_model.specs.declared.history.HistoryMark.TheVariants.{End}
+use Rattle.world_model.specs.declared.shape.Shape.{Shape}
+use Rattle.world_model.specs.Lists.{Has}
+use Rattle.world_model.specs.Notes.{Asked, asked, is_drained, operation_of}
+use Rattle.world_model.specs.Outcomes.{BeganAt}
+use Rattle.world_model.specs.Record.{Marked, Decided, Record}
+use Rattle.world_model.specs.Router.{IsKept, IsDone, HasEnded, begun_in}
+use Rattle.world_model.specs.Rules.{Rules, in_turn}
+
+-- one operation at a time, each of a blob that is one piece, tried once, with the partitions in turn
+abbrev pub simple_rules : Shape → Rules
+simple_rules shape = record { shape = shape; window = 1; limit = shape.chunk; attempts = 1; choose = in_turn shape }
+
+-- what holds of the record at any time
+pub record IsGoing (rules : Rules) (record' : Record) : Type 0 where
+  pub kept : IsKept rules record'
+  pub undrained : (node : ℕ) → is_drained node record' ≡ false
+  pub within : (a : Asked) → Has (asked record') a → operation_of a.correlation ≤ begun_in record'
+
+-- no operation is under way: each that became done has its end
+pub record IsIdle (rules : Rules) (record' : Record) : Type 0 where
+  pub going : IsGoing rules record'
+  pub ended : (operation : ℕ) (outcome : Outcome) → Has record' (Decided operation outcome) → Has record' (Marked (End operation outcome))
+
+-- The last operation, begun so when the record was `then`, isn't done. Its requests so far have numbers below `next`.
+pub record IsUnderWay (rules : Rules) (record' : Record) (operation : ℕ) (begun : Begun) (then : Record) (next : ℕ) : Type 0 where
+  pub going : IsGoing rules record'
+  pub last : operation ≡ begun_in record'
+  pub began : BeganAt record' operation begun then
+  pub undone : IsDone record' operation → ⊥
+  pub below : (a : Asked) → Has (asked record') a → operation_of a.correlation ≡ operation → a.correlation < operation * 2 ^ 32 + next
+  pub ended : (other : ℕ) (outcome : Outcome) → Has record' (Decided other outcome) → Has record' (Marked (End other outcome))
+
+-- the last operation is done so, and its end doesn't stand yet
+pub record IsOver (rules : Rules) (record' : Record) (operation : ℕ) (outcome : Outcome) : Type 0 where
+  pub going : IsGoing rules record'
+  pub last : operation ≡ begun_in record'
+  pub decided : Has record' (Decided operation outcome)
+  pub unended : HasEnded record' operation → ⊥
+  pub ended : (other : ℕ) (how : Outcome) → Has record' (Decided other how) → (other ≡ operation) ⊎ Has record' (Marked (End other how))

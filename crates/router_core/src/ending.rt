@@ -1,0 +1,119 @@
+//! How operations end.
+
+ghost use Rattle.std.specs.Prelude.{◌≡◌, ◌≢◌, ℕ, ◌≤◌, ◌++◌, List, Option, true, false, Some, OnOk, IfOk, IfSome, IsNone, ◌↔◌};
+ghost use Rattle.quorum_op.specs.declared.outcome.Outcome.TheVariants as outcome;
+ghost use Rattle.world_model.specs.declared.history.HistoryMark.{HistoryMark};
+ghost use Rattle.world_model.specs.declared.shape.Shape.{Shape};
+ghost use Rattle.world_model.specs.declared.step.Called.{Called};
+ghost use Rattle.world_model.specs.Fabric.{KeepsRun};
+ghost use Rattle.world_model.specs.Record.{Record};
+ghost use Rattle.world_model.specs.Shape.{IsShape};
+ghost use Rattle.router_core.specs.Ending.{RestsAs, end_of};
+ghost use Rattle.router_core.specs.Fits.{FitsLive, FitsStage, IsAnswer};
+ghost use Rattle.router_core.specs.declared.live.Live.{Live};
+ghost use Rattle.router_core.specs.declared.router.Stage.TheVariants as variant;
+ghost use Rattle.router_core.specs.Stands.{HasSent, OwnsStage, StageSent, Stands, end_marks, is_idle, is_under_way};
+ghost use Rattle.router_core.specs.Ties.{Ties};
+
+use crate::router::{Router, Stage};
+use blob_id::Memory;
+use quorum_op::Outcome;
+use std::alloc::Global;
+use std::mem;
+use world_model::{Fabric, Shape};
+
+/// An operation that ended.
+#[derive(Drop)]
+pub struct Ended {
+    pub operation: u32,
+    pub outcome: Outcome,
+}
+
+impl Router {
+    /// Takes events until the live operation is over, and gives its end. None where no operation is live.
+    pub fn finish<F: Fabric>(
+        &mut self,
+        alloc: Global,
+        fabric: &mut F,
+    ) -> Result<Option<Ended>, Memory>
+        requires open { F.opened fabric.old ≡ Some self.old.shape }
+        // The record goes on by what the network did and gave, and by the end.
+        ensures ties { IfOk result (λ ended. (marks : List HistoryMark) → Ties (Stands self.old) (F.told fabric.old) marks → Ties (Stands self.new) (F.told fabric.new) (end_marks ended ++ marks)) }
+        ensures idle { OnOk result (is_idle self.new.stage ≡ true) }
+        ensures ended { IfOk result (λ ended. IsNone ended ↔ (is_idle self.old.stage ≡ true)) }
+        // An end is the last operation's, and none is for want of memory. A put's answer is a simple id of a partition of the shape.
+        ensures last { IfOk result (λ ended. IfSome ended (λ e. e.operation ≡ self.old.begun)) }
+        ensures memory { IfOk result (λ ended. IfSome ended (λ e. e.outcome ≢ outcome.Memory)) }
+        ensures answer { IfOk result (λ ended. IfSome ended (λ e. IsAnswer self.old.shape e.outcome)) }
+        ensures begun { self.new.begun ≡ self.old.begun }
+        ensures shape { self.new.shape ≡ self.old.shape }
+        ensures opened { F.opened fabric.new ≡ F.opened fabric.old }
+        ensures later { F.faults fabric.old ≤ F.faults fabric.new }
+        ensures run { (cluster : Shape) (place : List ℕ) → KeepsRun (F.told fabric.old) (F.image fabric.old cluster place) (F.told fabric.new) (F.image fabric.new cluster place) }
+        ensures goes { OnOk result (F.goes fabric.old fabric.new) }
+        ensures falls { F.falls fabric.old fabric.new }
+    {
+        self.run(alloc, fabric)?;
+        Ok(self.end())
+    }
+
+    /// Gives the end of the operation that is over.
+    fn end(&mut self) -> Option<Ended>
+        requires over { is_under_way self.old.stage ≡ false }
+        ensures value { result ≡ end_of self.old.stage }
+        ensures ties { (told : Option (List Called)) (marks : List HistoryMark) → Ties (Stands self.old) told marks → Ties (Stands self.new) told (end_marks result ++ marks) }
+        ensures idle { is_idle self.new.stage ≡ true }
+        ensures ended { IsNone result ↔ (is_idle self.old.stage ≡ true) }
+        ensures last { IfSome result (λ e. e.operation ≡ self.old.begun) }
+        ensures answer { IfSome result (λ e. IsAnswer self.old.shape e.outcome) }
+        ensures begun { self.new.begun ≡ self.old.begun }
+        ensures shape { self.new.shape ≡ self.old.shape }
+    {
+        end_of(mem::replace(&mut self.stage, Stage::Idle))
+    }
+
+    /// The operation that is under way is over where its piece is pending no longer.
+    pub(crate) fn decide(&mut self, alloc: Global) -> Result<(), Memory>
+        ensures ties { OnOk result ((told : Option (List Called)) (marks : List HistoryMark) → Ties (HasSent self.old) told marks → Ties (Stands self.new) told marks) }
+        ensures events { self.new.events ≡ self.old.events }
+        ensures idle { is_idle self.new.stage ≡ is_idle self.old.stage }
+        ensures begun { self.new.begun ≡ self.old.begun }
+        ensures shape { self.new.shape ≡ self.old.shape }
+    {
+        decide_stage(&mut self.stage, alloc, &self.shape)
+    }
+}
+
+/// The operation that is under way is over where its piece is pending no longer.
+fn decide_stage(stage: &mut Stage, alloc: Global, shape: &Shape) -> Result<(), Memory>
+    requires shape { IsShape shape.now }
+    requires fits { (live : Live) → stage.old ≡ variant.UnderWay live → FitsLive shape.now live }
+    ensures rests { OnOk result ((record' : Record) → OwnsStage shape.now record' stage.old → StageSent shape.now record' stage.old → RestsAs shape.now record' stage.old stage.new) }
+    ensures fits { (begun : ℕ) → FitsStage shape.now begun stage.old → FitsStage shape.now begun stage.new }
+    ensures idle { is_idle stage.new ≡ is_idle stage.old }
+{
+    match stage {
+        Stage::UnderWay(live) => {
+            let operation = live.operation;
+            match live.outcome(alloc, shape)? {
+                Some(outcome) => {
+                    *stage = Stage::Over { operation, outcome };
+                    Ok(())
+                }
+                None => Ok(()),
+            }
+        }
+        Stage::Idle => Ok(()),
+        Stage::Over { .. } => Ok(()),
+    }
+}
+
+/// The end that wasn't given yet.
+fn end_of(stage: Stage) -> Option<Ended>
+    ensures { result ≡ end_of stage }
+{
+    match stage {
+        Stage::Over { operation, outcome } => Some(Ended { operation, outcome }),
+        Stage::Idle | Stage::UnderWay(_) => None,
+    }
+}

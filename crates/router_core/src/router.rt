@@ -1,0 +1,78 @@
+//! What a router keeps.
+
+ghost use Rattle.std.specs.Prelude.{◌≡◌, ◌%◌, ◌<◌, [], true, Some};
+ghost use Rattle.world_model.specs.Shape.{IsShape};
+ghost use Rattle.router_core.specs.Stands.{Stands, is_idle};
+
+use crate::live::Live;
+use quorum_op::Outcome;
+use std::marker::Model;
+use world_model::Shape;
+
+/// Where a router stands.
+#[derive(Drop)]
+pub enum Stage {
+    /// No operation is live.
+    Idle,
+    /// An operation waits for replies.
+    UnderWay(Live),
+    /// The last operation is done, and its end wasn't given yet.
+    Over { operation: u32, outcome: Outcome },
+}
+
+/// A router that has one operation at a time. Operations are numbered from 1.
+#[derive(Drop)]
+pub struct Router {
+    pub(crate) shape: Shape,
+    /// The greatest moment that an event told, in ms.
+    pub(crate) clock: u64,
+    /// How many events it took.
+    pub(crate) events: u64,
+    /// How many operations began.
+    pub(crate) begun: u32,
+    pub(crate) stage: Stage,
+}
+
+impl Model for Router {
+    ghost use Rattle.router_core.specs.Fits.{Fits, RouterView};
+
+    ghost Value = { RouterView };
+
+    ghost view = { λ r. record { shape = r.shape; clock = r.clock; events = r.events; begun = r.begun; stage = r.stage } };
+
+    ghost invariant = { λ r. Fits (record { shape = r.shape; clock = r.clock; events = r.events; begun = r.begun; stage = r.stage }) };
+}
+
+impl Router {
+    /// A router that did nothing yet.
+    pub fn new(shape: Shape) -> Router
+        requires shape { IsShape shape }
+        ensures stands { Stands result [] }
+        ensures shape { result.shape ≡ shape }
+        ensures begun { result.begun ≡ 0 }
+        ensures idle { is_idle result.stage ≡ true }
+    {
+        Router {
+            shape,
+            clock: 0,
+            events: 0,
+            begun: 0,
+            stage: Stage::Idle,
+        }
+    }
+
+    /// The most bytes that a put may have.
+    pub fn limit(&self) -> u32
+        ensures { result ≡ self.now.shape.chunk }
+    {
+        self.shape.chunk
+    }
+
+    /// The partition in which the next operation draws its id.
+    pub fn partition(&self) -> u32
+        ensures value { result ≡ self.now.begun % self.now.shape.partitions }
+        ensures within { result < self.now.shape.partitions }
+    {
+        self.begun % self.shape.partitions
+    }
+}
