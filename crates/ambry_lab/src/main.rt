@@ -7,14 +7,23 @@ use front_end::run_lab;
 use outside::{CountRandom, StdSink, StdSource};
 use std::process::ExitCode;
 use std::{env, io};
+use world_model::SeedMoves;
 
 fn main(rt: HostRuntime) -> ExitCode {
     let words = read_words(&rt);
     let mut input = StdSource::new(rt.reader());
     let mut output = StdSink::new(io::writer(&rt));
+    let mut moves = SeedMoves::new(rt.alloc());
     let mut random = CountRandom::new(0, 0);
     let status = match words {
-        Ok(words) => run_lab(rt.alloc(), &words, &mut input, &mut output, &mut random),
+        Ok(words) => run_lab(
+            rt.alloc(),
+            &words,
+            &mut input,
+            &mut output,
+            &mut moves,
+            &mut random,
+        ),
         Err(Memory) => 6,
     };
     ExitCode::from(status)

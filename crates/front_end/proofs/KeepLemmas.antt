@@ -1,25 +1,22 @@
 -- What a session keeps of its state, step after step.
-use Rattle.std.proofs.Common.{◌≡◌, ◌≢◌, ℕ, ◌+◌, ◌-◌, ◌<◌, ◌≤◌, suc, zero, List, [], ◌∷◌, ◌++◌, length, Bool, true, false, Option, None, Some, refl, sym, ap, subst, ◌∙◌, arith, append_assoc, cond, ◌==◌, slice_get, slice_set, map, option_map, Result, Ok, Err, OnOk, length-append}
+use Rattle.std.proofs.Common.{◌≡◌, ◌≢◌, ℕ, ◌+◌, ◌-◌, ◌<◌, ◌≤◌, suc, zero, List, [], ◌∷◌, ◌++◌, length, Bool, true, false, Option, None, Some, refl, sym, ap, ◌∙◌, arith, append_assoc, cond, ◌==◌, slice_get, slice_set, map, option_map, Result, Ok, Err, OnOk}
 use Rattle.std.specs.Option.{option_flatten}
 use Rattle.std.proofs.lemmas.List.{append-nil, map-append}
 use Rattle.std.proofs.lemmas.Bool.Decides.{nat_tests}
-use Rattle.front_end.specs.declared.history.Outcome.{Outcome}
-use Rattle.front_end.specs.declared.history.Outcome.TheVariants as ended
-use Rattle.front_end.specs.declared.history.HistoryMark.TheVariants.{Begin, End, Wait}
+use Rattle.quorum_op.specs.declared.outcome.Outcome.{Outcome}
+use Rattle.world_model.specs.declared.history.HistoryMark.TheVariants.{Begin, End, Wait}
 use Rattle.front_end.specs.declared.history.Entry.{Entry}
 use Rattle.front_end.specs.declared.history.Entry.TheVariants.{Mark}
-use Rattle.front_end.specs.Past.{answer_after, answer_of}
+use Rattle.front_end.specs.Past.{answer_after, answer_in, answer_of, answer_or}
+use Rattle.router_core.specs.Stands.{is_idle}
 use Rattle.front_end.specs.Outline.{outline_entry}
 use Rattle.front_end.specs.declared.tags.Tag.{Tag}
-use Rattle.front_end.specs.declared.session.Live.{Live}
 use Rattle.front_end.specs.declared.session.Session.{Session}
-use Rattle.front_end.specs.declared.history.Begun.{Begun}
-use Rattle.std.specs.List.{AllByRecursion}
+use Rattle.world_model.specs.declared.history.Begun.{Begun}
 use Rattle.std.specs.Str.{bytes_eq}
 use Rattle.front_end.specs.Script.{tag_number}
-use Rattle.front_end.specs.Kept.{IsWithin}
 use Rattle.front_end.specs.Transcript.{entry_line}
-use Rattle.front_end.specs.Session.{State, Keeps, entries_of, live_numbers, finished, finished_by, ended_by, waited_by, with_live, answer_at, answer_in, answered, nothing_yet}
+use Rattle.front_end.specs.Session.{State, Keeps, entries_of, waited_by, answer_at, answered, nothing_yet}
 use Rattle.front_end.proofs.SessionLemmas.{answer_with_last, answer_wait}
 
 pub outline_more : (es : List Entry) (e : Entry) → map outline_entry (es ++ e ∷ []) ≡ map outline_entry es ++ outline_entry e ∷ []
@@ -56,14 +53,17 @@ set_answer xs n k id n_pos n_le k_pos =
           ap option_flatten (set_elsewhere xs (n - 1) (k - 1) (Some id) (λ q. other (omega arith)))
     ] refl
 
+same_either : (b : Bool) (x : Option (List ℕ)) → x ≡ cond b x x
+same_either true x = refl
+same_either false x = refl
+
+answers_set : (xs : List (Option (List ℕ))) (n k : ℕ) (a x : Option (List ℕ)) → 0 < n → n ≤ length xs → 0 < k → answer_at xs k ≡ x → answer_at (answered xs n a) k ≡ cond (n == k) (answer_or x a) x
+answers_set xs n k None x n_pos n_le k_pos same = same ∙ same_either (n == k) x
+answers_set xs n k (Some id) x n_pos n_le k_pos same = set_answer xs n k id n_pos n_le k_pos ∙ ap (cond (n == k) (Some id)) same
+
 pub answers_end : (xs : List (Option (List ℕ))) (es : List Entry) (n : ℕ) (o : Outcome) → 0 < n → n ≤ length xs → ((k : ℕ) → 0 < k → answer_at xs k ≡ answer_of es k)
     → (k : ℕ) → 0 < k → answer_at (answered xs n (answer_in o)) k ≡ answer_of (es ++ Mark (End n o) ∷ []) k
-answers_end xs es n (ended.Put id) n_pos n_le all k k_pos =
-    set_answer xs n k id n_pos n_le k_pos ∙ ap (cond (n == k) (Some id)) (all k k_pos) ∙ sym (answer_with_last None es (Mark (End n (ended.Put id))) k)
-answers_end xs es n (ended.Bytes b) n_pos n_le all k k_pos = all k k_pos ∙ sym (answer_with_last None es (Mark (End n (ended.Bytes b))) k)
-answers_end xs es n ended.NoId n_pos n_le all k k_pos = all k k_pos ∙ sym (answer_with_last None es (Mark (End n ended.NoId)) k)
-answers_end xs es n (ended.TooLarge size) n_pos n_le all k k_pos = all k k_pos ∙ sym (answer_with_last None es (Mark (End n (ended.TooLarge size))) k)
-answers_end xs es n ended.Memory n_pos n_le all k k_pos = all k k_pos ∙ sym (answer_with_last None es (Mark (End n ended.Memory)) k)
+answers_end xs es n o n_pos n_le all k k_pos = answers_set xs n k (answer_in o) (answer_of es k) n_pos n_le k_pos (all k k_pos) ∙ sym (answer_with_last None es (Mark (End n o)) k)
 
 -- a place more
 none_more : (xs : List (Option (List ℕ))) (i : ℕ) → option_flatten (slice_get (xs ++ None ∷ []) i) ≡ option_flatten (slice_get xs i)
@@ -91,22 +91,15 @@ answers_own s e k same = sym (ap (λ (es : List Entry). answer_of es k) (append-
 pub answers_later : (s : State) (e : Entry) (k : ℕ) → answer_after (answer_of (entries_of s) k) e k ≡ answer_of (entries_of s) k → answer_of (entries_of s) k ≡ answer_of (s.settled ++ (s.later ++ e ∷ [])) k
 answers_later s e k same = sym (ap (λ (es : List Entry). answer_of es k) (sym (append_assoc s.settled s.later (e ∷ []))) ∙ answer_stays (entries_of s) e k same)
 
-within_more : (few many : ℕ) → few ≤ many → (ns : List ℕ) → AllByRecursion (IsWithin few) ns → AllByRecursion (IsWithin many) ns
-within_more few many le [] all = tt
-within_more few many le (n ∷ ns) all = ((all.0.0, omega (arith, all.0.1)), within_more few many le ns all.1)
-
-pub within_tags : (tags : List Tag) (t : Tag) (ns : List ℕ) → AllByRecursion (IsWithin (length tags)) ns → AllByRecursion (IsWithin (length (tags ++ t ∷ []))) ns
-within_tags tags t ns all = within_more (length tags) (length (tags ++ t ∷ [])) (omega (arith, length-append tags (t ∷ []))) ns all
-
-pub keeps_new : (s : Session) → s.tags ≡ [] → s.live ≡ None → s.lines ≡ 0 → s.bad ≡ false → s.settled ≡ [] → s.later ≡ [] → s.answers.items ≡ [] → Keeps s nothing_yet
-keeps_new s tags live lines bad settled later answers = record {
+pub keeps_new : (s : Session) → s.tags ≡ [] → is_idle s.router.stage ≡ true → s.lines ≡ 0 → s.bad ≡ false → s.settled ≡ [] → s.later ≡ [] → s.answers.items ≡ [] → Keeps s nothing_yet
+keeps_new s tags idle lines bad settled later answers = record {
   tags = tags;
-  live = live;
+  busy = idle;
+  some = λ e. absurd cc;
   lines = lines;
   bad = bad;
   settled = settled;
   later = later;
-  within = tt;
   count = ap length answers;
   answers = λ n pos. ap (λ (xs : List (Option (List ℕ))). answer_at xs n) answers ∙ none_at (n - 1);
 }
@@ -118,60 +111,28 @@ keeps_new s tags live lines bad settled later answers = record {
 pub keeps_wait : (s : Session) (state : State) → Keeps s state → Keeps (record s { settled = s.settled ++ Mark (Wait None) ∷ [] }) (waited_by state)
 keeps_wait s state k = record {
   tags = k.tags;
-  live = k.live;
+  busy = k.busy;
+  some = k.some;
   lines = k.lines;
   bad = k.bad;
   settled = ap (λ (t : List Entry). t ++ Mark (Wait None) ∷ []) k.settled ∙ sym (outline_more state.settled (Mark (Wait None)));
   later = k.later;
-  within = k.within;
   count = k.count;
   answers = λ n pos. k.answers n pos ∙ sym (answer_wait None state.settled state.later None n);
-}
-
-pub keeps_idle : (s : Session) (state : State) (other : Option Live) → other ≡ None → Keeps s state → Keeps (record s { live = other }) (record state { live = None })
-keeps_idle s state other none k = record {
-  tags = k.tags;
-  live = none;
-  lines = k.lines;
-  bad = k.bad;
-  settled = k.settled;
-  later = k.later;
-  within = tt;
-  count = k.count;
-  answers = k.answers;
-}
-
-pub keeps_live : (s : Session) (state : State) (n : ℕ) (o : Outcome) → IsWithin (length state.tags) n → Keeps s state → Keeps (record s { live = Some (record { number = n; outcome = o }) }) (with_live state n o)
-keeps_live s state n o within k = record {
-  tags = k.tags;
-  live = refl;
-  lines = k.lines;
-  bad = k.bad;
-  settled = k.settled;
-  later = k.later;
-  within = (within, tt);
-  count = k.count;
-  answers = k.answers;
 }
 
 pub keeps_count : (s : Session) (state : State) → Keeps s state → Keeps (record s { lines = s.lines + 1 }) (record state { lines = state.lines + 1 })
 keeps_count s state k = record {
   tags = k.tags;
-  live = k.live;
+  busy = k.busy;
+  some = k.some;
   lines = ap (λ n. n + 1) k.lines;
   bad = k.bad;
   settled = k.settled;
   later = k.later;
-  within = k.within;
   count = k.count;
   answers = k.answers;
 }
-
-pub finished_some : (state : State) (live : Live) → state.live ≡ Some live → finished state ≡ ended_by (record state { live = None }) live
-finished_some state live e = ap (finished_by state) e
-
-pub live_within : (state : State) (live : Live) → state.live ≡ Some live → AllByRecursion (IsWithin (length state.tags)) (live_numbers state.live) → IsWithin (length state.tags) live.number
-live_within state live e all = (subst (λ (l : Option Live). AllByRecursion (IsWithin (length state.tags)) (live_numbers l)) e all).0
 
 -- numbers of operations are counted from 1
 pub number_positive : (tags : List Tag) (name : List ℕ) (n : ℕ) → tag_number tags name ≡ Some n → 0 < n

@@ -14,3 +14,7 @@ pub mod WriteLemmas
 pub mod RunLemmas
 pub mod EndLemmas
 pub mod WordLemmas
+pub mod RunOnLemmas
+pub mod TimelyLemmas
+pub mod RecordLemmas
+pub mod ClusterLemmas

@@ -2,9 +2,9 @@
 use Rattle.std.proofs.Common.{◌≡◌, ◌≢◌, inl, ℕ, List, [], ◌∷◌, ◌++◌, Bool, true, false, Option, not, refl, sym, ap, subst, append_assoc, MatchBool}
 use Rattle.std.proofs.lemmas.List.{append-nil}
 use Rattle.std.specs.List.{AllByRecursion, Contains}
-use Rattle.front_end.specs.declared.history.Outcome.{Outcome}
-use Rattle.front_end.specs.declared.history.HistoryMark.{HistoryMark}
-use Rattle.front_end.specs.declared.history.HistoryMark.TheVariants.{Begin, Drew, End, Wait}
+use Rattle.quorum_op.specs.declared.outcome.Outcome.{Outcome}
+use Rattle.world_model.specs.declared.history.HistoryMark.{HistoryMark}
+use Rattle.world_model.specs.declared.history.HistoryMark.TheVariants.{Begin, Cancel, Drain, Drew, End, Level, Wait}
 use Rattle.front_end.specs.declared.history.Entry.{Entry}
 use Rattle.front_end.specs.declared.history.Entry.TheVariants.{Mark, Bad}
 use Rattle.front_end.specs.History.{Moment, after, after_all, without, IsOrdered}
@@ -84,6 +84,9 @@ pub ordered_waiting : (w : ℕ) (now waiting : Moment) (later : List Entry) → 
     → IsOrdered w now (marks_of later) → IsOrdered w waiting (marks_of later) × IsWaiting (after_all now (marks_of later)) (after_all waiting (marks_of later))
 ordered_waiting w now waiting [] all is p = (tt, is)
 ordered_waiting w now waiting (Mark (Begin n r) ∷ es) all is p = absurd cc
+ordered_waiting w now waiting (Mark (Cancel c0) ∷ es) all is p = absurd cc
+ordered_waiting w now waiting (Mark (Level l0 l1 l2 l3) ∷ es) all is p = absurd cc
+ordered_waiting w now waiting (Mark (Drain d0 d1) ∷ es) all is p = absurd cc
 ordered_waiting w now waiting (Mark (Drew n id) ∷ es) all is p =
     let rest = ordered_waiting w (after now (Drew n id)) (after waiting (Drew n id)) es all.1 (waiting_drew now waiting n id is) p.1 in
     ((subst (λ (xs : List ℕ). Contains xs n) (sym is.same_undrawn) p.0, rest.0), rest.1)
@@ -139,6 +142,9 @@ front_after-append front (x ∷ a) e = front_after-append (not (is_later x)) a e
 
 later_is_no_wait : (e : Entry) → is_later e ≡ true → is_wait e ≡ true → ⊥
 later_is_no_wait (Mark (Begin n r)) h k = cc
+later_is_no_wait (Mark (Cancel c0)) h k = cc
+later_is_no_wait (Mark (Level l0 l1 l2 l3)) h k = cc
+later_is_no_wait (Mark (Drain d0 d1)) h k = cc
 later_is_no_wait (Mark (Drew n id)) h k = cc
 later_is_no_wait (Mark (End n o)) h k = cc
 later_is_no_wait (Mark (Wait t)) h k = cc

@@ -5,14 +5,13 @@ use Rattle.std.proofs.lemmas.Grind.{flat_map-append}
 use Rattle.std.proofs.lemmas.Bool.Decides.{nat_tests}
 use Rattle.std.specs.List.{AllByRecursion, Contains}
 use Rattle.front_end.specs.declared.tags.Tag.{Tag}
-use Rattle.front_end.specs.declared.history.Outcome.{Outcome}
-use Rattle.front_end.specs.declared.history.Begun.{Begun}
-use Rattle.front_end.specs.declared.history.HistoryMark.{HistoryMark}
-use Rattle.front_end.specs.declared.history.HistoryMark.TheVariants.{Begin, Drew, End, Wait}
+use Rattle.quorum_op.specs.declared.outcome.Outcome.{Outcome}
+use Rattle.world_model.specs.declared.history.HistoryMark.{HistoryMark}
+use Rattle.world_model.specs.declared.history.HistoryMark.TheVariants.{Begin, Cancel, Drain, Drew, End, Level, Wait}
 use Rattle.front_end.specs.declared.history.Entry.{Entry}
 use Rattle.front_end.specs.declared.history.Entry.TheVariants.{Mark, Bad}
-use Rattle.front_end.specs.History.{Moment, start, after, after_all, MayCome, IsOrdered, with_first_end, request_of}
-use Rattle.front_end.specs.Past.{marks_of, answer_after, answer_along}
+use Rattle.front_end.specs.History.{Moment, start, after, after_all, MayCome, IsOrdered, with_first_end}
+use Rattle.front_end.specs.Past.{answer_after, answer_along}
 use Rattle.front_end.specs.Script.{name_of, name_or_none}
 use Rattle.front_end.specs.Transcript.{entry_line, transcript_of}
 use Rattle.front_end.specs.Kept.{IsNumbered, IsWithin}
@@ -45,6 +44,9 @@ line_stays tags more (Mark (Begin n r)) h = let same = name_stays tags more n h 
 line_stays tags more (Mark (Drew n id)) h = let same = name_stays tags more n h in rw same refl
 line_stays tags more (Mark (End n o)) h = let same = name_stays tags more n h in rw same refl
 line_stays tags more (Mark (Wait t)) h = refl
+line_stays tags more (Mark (Cancel c0)) h = refl
+line_stays tags more (Mark (Level l0 l1 l2 l3)) h = refl
+line_stays tags more (Mark (Drain d0 d1)) h = refl
 line_stays tags more (Bad n) h = refl
 
 pub transcript_stays : (tags more : List Tag) (es : List Entry) → AllByRecursion (IsNumbered (length tags)) es → transcript_of (tags ++ more) es ≡ transcript_of tags es
@@ -82,28 +84,6 @@ has_bad_wait [] b t = refl
 has_bad_wait (Mark m ∷ a) b t = has_bad_wait a b t
 has_bad_wait (Bad n ∷ a) b t = refl
 
--- the operation of a request is one of those that have begun
-pub asked_within : (k n : ℕ) (r : Begun) (es : List Entry) → AllByRecursion (IsNumbered k) es → request_of (marks_of es) n ≡ Some r → IsWithin k n
-asked_within k n r [] all e = absurd cc
-asked_within k n r (Mark (Begin m q) ∷ es) all e =
-    elim (m == n) as (λ t. (m == n) ≡ t → cond t (Some q) (request_of (marks_of es) n) ≡ Some r → IsWithin k n)
-    [ true ↦ λ same h. let equal : m ≡ n = grind (arith, nat_tests) in subst (IsWithin k) equal all.0 | false ↦ λ other h. asked_within k n r es all.1 h ] refl e
-asked_within k n r (Mark (Drew m id) ∷ es) all e = asked_within k n r es all.1 e
-asked_within k n r (Mark (End m o) ∷ es) all e = asked_within k n r es all.1 e
-asked_within k n r (Mark (Wait t) ∷ es) all e = asked_within k n r es all.1 e
-asked_within k n r (Bad m ∷ es) all e = asked_within k n r es all.1 e
-
--- a new operation's request
-pub request_new : (k n : ℕ) (r : Begun) (es : List Entry) → AllByRecursion (IsNumbered k) es → k < n → request_of (marks_of es ++ Begin n r ∷ []) n ≡ Some r
-request_new k n r [] all new = let same : (n == n) ≡ true = grind (arith, nat_tests) in rw same refl
-request_new k n r (Mark (Begin m q) ∷ es) all new =
-    let other : (m == n) ≡ false = grind (arith, nat_tests, all.0.1) in
-    rw other (request_new k n r es all.1 new)
-request_new k n r (Mark (Drew m id) ∷ es) all new = request_new k n r es all.1 new
-request_new k n r (Mark (End m o) ∷ es) all new = request_new k n r es all.1 new
-request_new k n r (Mark (Wait t) ∷ es) all new = request_new k n r es all.1 new
-request_new k n r (Bad m ∷ es) all new = request_new k n r es all.1 new
-
 -- before the first end at least one operation was open
 abbrev WasOpen : Option ℕ → Type 0
 WasOpen None = Unit {0}
@@ -122,6 +102,9 @@ first_end_open now (Begin n r ∷ h) w p = first_end_open (after now (Begin n r)
 first_end_open now (Drew n id ∷ h) w p = first_end_open (after now (Drew n id)) h w p.1
 first_end_open now (End n o ∷ h) w p = first_end_open (after now (End n o)) h (was_open now.first_end _ w (some_contained now.open_operations n p.0.0)) p.1
 first_end_open now (Wait t ∷ h) w p = first_end_open (after now (Wait t)) h tt p.1
+first_end_open now (Cancel n ∷ h) w p = absurd p.0
+first_end_open now (Level q a b y ∷ h) w p = absurd p.0
+first_end_open now (Drain d y ∷ h) w p = absurd p.0
 
 full : (o : Option ℕ) (count : ℕ) → WasOpen o → 1 ≤ count → (c : ℕ) × (with_first_end o count ≡ Some c) × (1 ≤ c)
 full None count h lt = (count, refl, lt)

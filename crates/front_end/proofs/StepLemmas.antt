@@ -3,8 +3,8 @@ use Rattle.std.proofs.Common.{◌≡◌, ℕ, ◌+◌, ◌≤◌, List, [], ◌�
 use Rattle.std.proofs.lemmas.List.{append-nil}
 use Rattle.std.specs.List.{AllByRecursion}
 use Rattle.front_end.specs.declared.tags.Tag.{Tag}
-use Rattle.front_end.specs.declared.history.HistoryMark.{HistoryMark}
-use Rattle.front_end.specs.declared.history.HistoryMark.TheVariants.{Begin, Drew, End, Wait}
+use Rattle.world_model.specs.declared.history.HistoryMark.{HistoryMark}
+use Rattle.world_model.specs.declared.history.HistoryMark.TheVariants.{Begin, Cancel, Drain, Drew, End, Level, Wait}
 use Rattle.front_end.specs.declared.history.Entry.{Entry}
 use Rattle.front_end.specs.declared.history.Entry.TheVariants.{Mark, Bad}
 use Rattle.front_end.specs.History.{Moment, start, after, after_all, MayCome, IsOrdered}
@@ -44,6 +44,9 @@ numbered_more few many le (Mark (Begin n r)) h = (h.0, omega (arith, h.1))
 numbered_more few many le (Mark (Drew n id)) h = (h.0, omega (arith, h.1))
 numbered_more few many le (Mark (End n o)) h = (h.0, omega (arith, h.1))
 numbered_more few many le (Mark (Wait t)) h = tt
+numbered_more few many le (Mark (Cancel c0)) h = tt
+numbered_more few many le (Mark (Level l0 l1 l2 l3)) h = tt
+numbered_more few many le (Mark (Drain d0 d1)) h = tt
 numbered_more few many le (Bad n) h = tt
 
 -- one more mark

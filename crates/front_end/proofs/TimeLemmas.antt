@@ -1,9 +1,9 @@
 -- Where ends stand, as a past grows.
 use Rattle.std.proofs.Common.{◌≡◌, ◌⊎◌, inl, inr, ℕ, List, [], ◌∷◌, ◌++◌, Bool, true, false, Option, refl}
 use Rattle.std.specs.List.{AllByRecursion}
-use Rattle.front_end.specs.declared.history.Outcome.{Outcome}
-use Rattle.front_end.specs.declared.history.Begun.{Begun}
-use Rattle.front_end.specs.declared.history.HistoryMark.TheVariants.{Begin, Drew, End, Wait}
+use Rattle.quorum_op.specs.declared.outcome.Outcome.{Outcome}
+use Rattle.world_model.specs.declared.history.Begun.{Begun}
+use Rattle.world_model.specs.declared.history.HistoryMark.TheVariants.{Begin, Cancel, Drain, Drew, End, Level, Wait}
 use Rattle.front_end.specs.declared.history.Entry.{Entry}
 use Rattle.front_end.specs.declared.history.Entry.TheVariants.{Mark, Bad}
 use Rattle.front_end.specs.Past.{is_later, BeginsNext, EndsWhileWaiting}
@@ -32,6 +32,9 @@ weaken w [] p = tt
 weaken w (Mark (End n o) ∷ es) p = (either_map (over_at_end es) p.0, weaken w es p.1)
 weaken w (Mark (Drew n id) ∷ es) p = weaken w es p
 weaken w (Mark (Begin n r) ∷ es) p = weaken false es p
+weaken w (Mark (Cancel c0) ∷ es) p = weaken false es p
+weaken w (Mark (Level l0 l1 l2 l3) ∷ es) p = weaken false es p
+weaken w (Mark (Drain d0 d1) ∷ es) p = weaken false es p
 weaken w (Mark (Wait t) ∷ es) p = weaken true es p
 weaken w (Bad k ∷ es) p = weaken false es p
 
@@ -41,6 +44,9 @@ time_begin w [] n r p = tt
 time_begin w (Mark (End m o) ∷ es) n r p = (either_map (begins_now es n r) p.0, time_begin w es n r p.1)
 time_begin w (Mark (Drew m id) ∷ es) n r p = time_begin w es n r p
 time_begin w (Mark (Begin m q) ∷ es) n r p = time_begin false es n r p
+time_begin w (Mark (Cancel c0) ∷ es) n r p = time_begin false es n r p
+time_begin w (Mark (Level l0 l1 l2 l3) ∷ es) n r p = time_begin false es n r p
+time_begin w (Mark (Drain d0 d1) ∷ es) n r p = time_begin false es n r p
 time_begin w (Mark (Wait t) ∷ es) n r p = time_begin true es n r p
 time_begin w (Bad k ∷ es) n r p = time_begin false es n r p
 
@@ -50,6 +56,9 @@ time_drew w [] n id p = tt
 time_drew w (Mark (End m o) ∷ es) n id p = (either_map (begins_among false es (Mark (Drew n id) ∷ [])) p.0, time_drew w es n id p.1)
 time_drew w (Mark (Drew m x) ∷ es) n id p = time_drew w es n id p
 time_drew w (Mark (Begin m q) ∷ es) n id p = time_drew false es n id p
+time_drew w (Mark (Cancel c0) ∷ es) n id p = time_drew false es n id p
+time_drew w (Mark (Level l0 l1 l2 l3) ∷ es) n id p = time_drew false es n id p
+time_drew w (Mark (Drain d0 d1) ∷ es) n id p = time_drew false es n id p
 time_drew w (Mark (Wait t) ∷ es) n id p = time_drew true es n id p
 time_drew w (Bad k ∷ es) n id p = time_drew false es n id p
 
@@ -59,6 +68,9 @@ time_bad w [] number p = tt
 time_bad w (Mark (End m o) ∷ es) number p = (either_map (begins_among false es (Bad number ∷ [])) p.0, time_bad w es number p.1)
 time_bad w (Mark (Drew m x) ∷ es) number p = time_bad w es number p
 time_bad w (Mark (Begin m q) ∷ es) number p = time_bad false es number p
+time_bad w (Mark (Cancel c0) ∷ es) number p = time_bad false es number p
+time_bad w (Mark (Level l0 l1 l2 l3) ∷ es) number p = time_bad false es number p
+time_bad w (Mark (Drain d0 d1) ∷ es) number p = time_bad false es number p
 time_bad w (Mark (Wait t) ∷ es) number p = time_bad true es number p
 time_bad w (Bad k ∷ es) number p = time_bad false es number p
 
@@ -68,6 +80,9 @@ time_end w [] n o p = (inr refl, tt)
 time_end w (Mark (End m x) ∷ es) n o p = (either_map (begins_among true es (Mark (End n o) ∷ [])) p.0, time_end w es n o p.1)
 time_end w (Mark (Drew m x) ∷ es) n o p = time_end w es n o p
 time_end w (Mark (Begin m q) ∷ es) n o p = time_end false es n o p
+time_end w (Mark (Cancel c0) ∷ es) n o p = time_end false es n o p
+time_end w (Mark (Level l0 l1 l2 l3) ∷ es) n o p = time_end false es n o p
+time_end w (Mark (Drain d0 d1) ∷ es) n o p = time_end false es n o p
 time_end w (Mark (Wait t) ∷ es) n o p = time_end true es n o p
 time_end w (Bad k ∷ es) n o p = time_end false es n o p
 
@@ -77,6 +92,9 @@ behind_wait [] all = tt
 behind_wait (Mark (End n o) ∷ es) all = (inl refl, behind_wait es all.1)
 behind_wait (Mark (Drew n id) ∷ es) all = behind_wait es all.1
 behind_wait (Mark (Begin n r) ∷ es) all = absurd cc
+behind_wait (Mark (Cancel c0) ∷ es) all = absurd cc
+behind_wait (Mark (Level l0 l1 l2 l3) ∷ es) all = absurd cc
+behind_wait (Mark (Drain d0 d1) ∷ es) all = absurd cc
 behind_wait (Mark (Wait t) ∷ es) all = absurd cc
 behind_wait (Bad k ∷ es) all = absurd cc
 
@@ -95,5 +113,8 @@ time_wait w [] later now t all also p = behind_wait now also
 time_wait w (Mark (End m x) ∷ es) later now t all also p = (either_map (begins_before es later (Mark (Wait t) ∷ now) all) p.0, time_wait w es later now t all also p.1)
 time_wait w (Mark (Drew m x) ∷ es) later now t all also p = time_wait w es later now t all also p
 time_wait w (Mark (Begin m q) ∷ es) later now t all also p = time_wait false es later now t all also p
+time_wait w (Mark (Cancel c0) ∷ es) later now t all also p = time_wait false es later now t all also p
+time_wait w (Mark (Level l0 l1 l2 l3) ∷ es) later now t all also p = time_wait false es later now t all also p
+time_wait w (Mark (Drain d0 d1) ∷ es) later now t all also p = time_wait false es later now t all also p
 time_wait w (Mark (Wait u) ∷ es) later now t all also p = time_wait true es later now t all also p
 time_wait w (Bad k ∷ es) later now t all also p = time_wait false es later now t all also p

@@ -1,17 +1,12 @@
 -- What a session keeps between two script lines.
-use Rattle.std.specs.Prelude.{◌≡◌, ℕ, ◌<◌, ◌≤◌, List, [], ◌∷◌, ◌++◌, length, Bool, true, Option, Some, not}
+use Rattle.std.specs.Prelude.{◌≡◌, ℕ, ◌<◌, ◌≤◌, List, [], ◌∷◌, ◌++◌, length, Bool, true, Option, not}
 use Rattle.std.specs.List.{AllByRecursion}
-use Rattle.blob_id.specs.declared.blob.Blob.{Blob}
-use Rattle.cell_model.specs.declared.cell.Cell.TheVariants as cell
-use Rattle.cell_model.specs.Cells.{cell_in}
-use Rattle.cell_model.specs.Asks.{Told}
 use Rattle.front_end.specs.declared.tags.Tag.{Tag}
-use Rattle.front_end.specs.declared.history.Begun.{Begun}
-use Rattle.front_end.specs.declared.history.HistoryMark.{HistoryMark}
-use Rattle.front_end.specs.declared.history.HistoryMark.TheVariants.{Begin, Drew, End, Wait}
+use Rattle.world_model.specs.declared.history.HistoryMark.{HistoryMark}
+use Rattle.world_model.specs.declared.history.HistoryMark.TheVariants.{Begin, Drew, End}
 use Rattle.front_end.specs.declared.history.Entry.{Entry}
-use Rattle.front_end.specs.declared.history.Entry.TheVariants.{Mark, Bad}
-use Rattle.front_end.specs.History.{request_of, content_of, drawn, AreDistinct, IsSafe, MayEnd, AnswersDrawn, DrawsInOrder, start, after_all, IsOrdered}
+use Rattle.front_end.specs.declared.history.Entry.TheVariants.{Mark}
+use Rattle.front_end.specs.History.{DrawsInOrder, start, after_all, IsOrdered, newest_first}
 use Rattle.front_end.specs.Script.{asked, tags_after}
 use Rattle.front_end.specs.Past.{marks_of, is_later, Follows, WaitsStandFirst}
 
@@ -28,8 +23,7 @@ abbrev pub IsNumbered : ℕ → Entry → Type 0
 IsNumbered count (Mark (Begin n request)) = IsWithin count n
 IsNumbered count (Mark (Drew n id)) = IsWithin count n
 IsNumbered count (Mark (End n outcome)) = IsWithin count n
-IsNumbered count (Mark (Wait t)) = Unit {0}
-IsNumbered count (Bad number) = Unit {0}
+IsNumbered count _ = Unit {0}
 
 -- A past, up to the last entry of a script line and since then, is that of the script lines; these operations are open, and these have still to
 -- draw an id.
@@ -45,21 +39,8 @@ pub record IsPast (lines : List (List ℕ)) (known : List Tag) (past since : Lis
   pub count : (after_all start (marks_of (past ++ since))).begun_count ≡ length known
   pub numbered : AllByRecursion (IsNumbered (length known)) (past ++ since)
 
--- an operation that ended, ended as it might
-abbrev pub EndsAsAsked : List HistoryMark → HistoryMark → Type 0
-EndsAsAsked h (End n outcome) = (request : Begun) × (request_of h n ≡ Some request) × MayEnd request outcome × AnswersDrawn h n outcome
-EndsAsAsked h (Begin n request) = Unit {0}
-EndsAsAsked h (Drew n id) = Unit {0}
-EndsAsAsked h (Wait t) = Unit {0}
-
--- each held blob is what was put under its id
-abbrev pub HoldsWhatWasPut : List HistoryMark → Told → Type 0
-HoldsWhatWasPut h told = (id : List ℕ) (blob : Blob) → cell_in told.cells id ≡ cell.Held blob → content_of h id ≡ Some blob.body
-
--- What holds of a history, of what the replica tells, and of the random words that were to come at first and are to come now. That ids are
--- distinct is the premise of what is said of their content.
-pub record IsKept (h : List HistoryMark) (told : Told) (first now : Option (ℕ → ℕ)) : Type 0 where
-  pub ends : AllByRecursion (EndsAsAsked h) h
-  pub draws : DrawsInOrder first h now
-  pub safe : AreDistinct (drawn h) → IsSafe h
-  pub stored : AreDistinct (drawn h) → HoldsWhatWasPut h told
+-- What holds of a history, and of the random words that were to come at first and are to come now: its ids were drawn with these words, in
+-- order, and what it was made on is tied to its marks.
+pub record IsKept (partitions : ℕ) (h : List HistoryMark) (tie : List HistoryMark → Type 0) (first now : Option (ℕ → ℕ)) : Type 0 where
+  pub draws : DrawsInOrder partitions first h now
+  pub tied : tie (newest_first h)

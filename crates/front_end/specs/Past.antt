@@ -2,10 +2,10 @@
 use Rattle.std.specs.Prelude.{◌≡◌, ◌⊎◌, ℕ, ◌+◌, List, [], ◌∷◌, ◌++◌, length, Bool, true, false, Option, None, Some, ◌==◌, not, if◌then◌else◌, option_and_then, MatchBool}
 use Rattle.front_end.specs.declared.tags.Tag.{Tag}
 use Rattle.front_end.specs.declared.script.Command.TheVariants as command
-use Rattle.front_end.specs.declared.history.Outcome.TheVariants as ended
-use Rattle.front_end.specs.declared.history.Begun.TheVariants as begun
-use Rattle.front_end.specs.declared.history.HistoryMark.{HistoryMark}
-use Rattle.front_end.specs.declared.history.HistoryMark.TheVariants.{Begin, Drew, End, Wait}
+use Rattle.quorum_op.specs.declared.outcome.Outcome.{Outcome}
+use Rattle.world_model.specs.declared.history.Begun.{Begun}
+use Rattle.world_model.specs.declared.history.HistoryMark.{HistoryMark}
+use Rattle.world_model.specs.declared.history.HistoryMark.TheVariants.{Begin, Drew, End, Wait}
 use Rattle.front_end.specs.declared.history.Entry.{Entry}
 use Rattle.front_end.specs.declared.history.Entry.TheVariants.{Mark, Bad}
 use Rattle.front_end.specs.Script.{Asked, tag_number}
@@ -16,17 +16,19 @@ marks_of [] = []
 marks_of (Mark mark ∷ entries) = mark ∷ marks_of entries
 marks_of (Bad number ∷ entries) = marks_of entries
 
+-- the answer that an outcome gives: a put's id
+abbrev pub answer_in : Outcome → Option (List ℕ)
+answer_in (Outcome.Put id) = Some id
+answer_in _ = None
+
+abbrev pub answer_or : Option (List ℕ) → Option (List ℕ) → Option (List ℕ)
+answer_or before None = before
+answer_or before (Some id) = Some id
+
 -- the answer of operation n, where it had one before this entry or this entry is the end that gives it
 abbrev pub answer_after : Option (List ℕ) → Entry → ℕ → Option (List ℕ)
-answer_after before (Mark (End m (ended.Put id))) n = if m == n then Some id else before
-answer_after before (Mark (End m (ended.Bytes bytes))) n = before
-answer_after before (Mark (End m ended.NoId)) n = before
-answer_after before (Mark (End m (ended.TooLarge size))) n = before
-answer_after before (Mark (End m ended.Memory)) n = before
-answer_after before (Mark (Begin m request)) n = before
-answer_after before (Mark (Drew m id)) n = before
-answer_after before (Mark (Wait t)) n = before
-answer_after before (Bad number) n = before
+answer_after before (Mark (End m outcome)) n = if m == n then answer_or before (answer_in outcome) else before
+answer_after before _ n = before
 
 abbrev pub answer_along : Option (List ℕ) → List Entry → ℕ → Option (List ℕ)
 answer_along before [] n = before
@@ -42,21 +44,19 @@ named_by tags entries tag = option_and_then (answer_of entries) (tag_number tags
 
 -- whether an entry is what an operation drew or how it ended, and not an entry of a script line
 abbrev pub is_later : Entry → Bool
-is_later (Mark (Begin n request)) = false
 is_later (Mark (Drew n id)) = true
 is_later (Mark (End n outcome)) = true
-is_later (Mark (Wait t)) = false
-is_later (Bad number) = false
+is_later _ = false
 
 -- An entry is that of the script line, where these entries stand before it.
 abbrev pub IsOwn : List Entry → Asked → Entry → Type 0
 IsOwn before line (Bad number) = (line.command ≡ None) × (number ≡ line.number)
 IsOwn before line (Mark (Wait t)) = (line.command ≡ Some command.Wait) × (t ≡ None)
-IsOwn before line (Mark (Begin n (begun.Put body))) = (tag : List ℕ) × (line.command ≡ Some (command.Put tag body)) × (n ≡ length line.tags + 1)
-IsOwn before line (Mark (Begin n (begun.Get id))) =
-    (tag : List ℕ) × (of : List ℕ) × (line.command ≡ Some (command.Get tag of)) × (n ≡ length line.tags + 1) × (id ≡ named_by line.tags before of)
-IsOwn before line (Mark (Drew n id)) = ⊥
-IsOwn before line (Mark (End n outcome)) = ⊥
+IsOwn before line (Mark (Begin n (Begun.Put file body ttl ctype meta))) =
+    (tag : List ℕ) × (line.command ≡ Some (command.Put tag body)) × (n ≡ length line.tags + 1) × (file ≡ []) × (ttl ≡ 0) × (ctype ≡ []) × (meta ≡ [])
+IsOwn before line (Mark (Begin n (Begun.Get id range file))) =
+    (tag : List ℕ) × (of : List ℕ) × (line.command ≡ Some (command.Get tag of)) × (n ≡ length line.tags + 1) × (id ≡ named_by line.tags before of) × (range ≡ None) × (file ≡ [])
+IsOwn before line _ = ⊥
 
 -- The entries follow the script: each is that of the next line, but for what was drawn and ended between them.
 abbrev pub Follows : List Entry → List Entry → List Asked → Type 0
@@ -66,11 +66,8 @@ Follows before (entry ∷ entries) lines = MatchBool (is_later entry)
     ((line : Asked) × (more : List Asked) × (lines ≡ line ∷ more) × IsOwn before line entry × Follows (before ++ entry ∷ []) entries more)
 
 abbrev pub is_wait : Entry → Bool
-is_wait (Mark (Begin n request)) = false
-is_wait (Mark (Drew n id)) = false
-is_wait (Mark (End n outcome)) = false
 is_wait (Mark (Wait t)) = true
-is_wait (Bad number) = false
+is_wait _ = false
 
 -- A wait stands directly behind an entry of a script line, or first.
 abbrev pub WaitsStandFirst : Bool → List Entry → Type 0
@@ -79,10 +76,7 @@ WaitsStandFirst front (entry ∷ entries) = (is_wait entry ≡ true → front �
 
 abbrev pub is_begin : Entry → Bool
 is_begin (Mark (Begin n request)) = true
-is_begin (Mark (Drew n id)) = false
-is_begin (Mark (End n outcome)) = false
-is_begin (Mark (Wait t)) = false
-is_begin (Bad number) = false
+is_begin _ = false
 
 -- The next entry of a script line begins an operation. At `over` it may also be that the script has no more lines.
 abbrev pub BeginsNext : Bool → List Entry → Type 0
@@ -95,6 +89,5 @@ abbrev pub EndsWhileWaiting : Bool → Bool → List Entry → Type 0
 EndsWhileWaiting over waited [] = Unit {0}
 EndsWhileWaiting over waited (Mark (End n outcome) ∷ entries) = ((waited ≡ true) ⊎ BeginsNext over entries) × EndsWhileWaiting over waited entries
 EndsWhileWaiting over waited (Mark (Drew n id) ∷ entries) = EndsWhileWaiting over waited entries
-EndsWhileWaiting over waited (Mark (Begin n request) ∷ entries) = EndsWhileWaiting over false entries
 EndsWhileWaiting over waited (Mark (Wait t) ∷ entries) = EndsWhileWaiting over true entries
-EndsWhileWaiting over waited (Bad number ∷ entries) = EndsWhileWaiting over false entries
+EndsWhileWaiting over waited (_ ∷ entries) = EndsWhileWaiting over false entries

@@ -1,19 +1,33 @@
 -- What a run leaves behind: the bytes that it read and wrote have a history.
-use Rattle.std.specs.Prelude.{◌≡◌, ◌⊎◌, ℕ, ◌≤◌, List, [], ◌∷◌, ◌++◌, length, take, Bool, true, false, Option, None, Some, codes, if◌then◌else◌}
+use Rattle.std.specs.Prelude.{◌≡◌, ◌⊎◌, ℕ, ◌+◌, ◌<◌, ◌≤◌, List, [], ◌∷◌, ◌++◌, length, take, Bool, true, false, Option, None, Some, IsSome, codes, if◌then◌else◌}
 use Rattle.front_end.specs.declared.history.Entry.{Entry}
 use Rattle.front_end.specs.declared.run.Ending.{Ending}
 use Rattle.front_end.specs.declared.run.Ending.TheVariants.{AtEnd, AtEndLine, PastLimit}
 use Rattle.front_end.specs.declared.script.Command.TheVariants as command
-use Rattle.std.specs.List.{AllByRecursion}
-use Rattle.front_end.specs.History.{start, after_all, IsOrdered, IsSafe, AreDistinct, drawn, DrawsInOrder}
+use Rattle.mem_fabric.specs.Network.{nothing_held}
+use Rattle.mem_fabric.specs.Played.{IsPlayed}
+use Rattle.router_core.specs.Stages.{simple_rules}
+use Rattle.router_core.specs.Ties.{IsWoven}
+use Rattle.world_model.specs.declared.history.HistoryMark.{HistoryMark}
+use Rattle.world_model.specs.declared.moves.Move.{Move}
+use Rattle.world_model.specs.declared.shape.Shape.{Shape}
+use Rattle.world_model.specs.declared.step.Called.{Called}
+use Rattle.world_model.specs.Lists.{Each, Has}
+use Rattle.world_model.specs.Notes
+use Rattle.world_model.specs.Notes.{Asked, ends, events_in, is_open}
+use Rattle.world_model.specs.Record.{Record}
+use Rattle.world_model.specs.Router.{IsKept}
+use Rattle.world_model.specs.Safe.{DrawsFresh, Safe}
+use Rattle.world_model.specs.Shape.{replica_of}
+use Rattle.world_model.specs.World.{Run}
+use Rattle.front_end.specs.History.{start, after_all, IsOrdered, DrawsInOrder, newest_first}
 use Rattle.front_end.specs.Script.{asked, tags_after, command_of, OnlyLastEnds}
 use Rattle.front_end.specs.Past.{marks_of, Follows, WaitsStandFirst, EndsWhileWaiting}
 use Rattle.front_end.specs.Transcript.{transcript_of}
 use Rattle.front_end.specs.Lines.{HasNoEnd, BeginsWith}
-use Rattle.front_end.specs.Kept.{EndsAsAsked}
 use Rattle.front_end.specs.Session.{has_bad}
 
--- A past is that of these script lines, and it is in order and safe where the drawn ids are distinct. One operation is open at a time.
+-- A past is that of these script lines, and it is in order. One operation is open at a time.
 pub record IsPastOf (over : Bool) (lines : List (List ℕ)) (entries : List Entry) : Type 0 where
   -- the entries are those of the lines, in order, with what was drawn and ended between them
   pub follows : Follows [] entries (asked 1 [] lines)
@@ -22,10 +36,6 @@ pub record IsPastOf (over : Bool) (lines : List (List ℕ)) (entries : List Entr
   pub ordered : IsOrdered 1 start (marks_of entries)
   -- each end stands where the script waits, or at its end where it is over
   pub in_time : EndsWhileWaiting over false entries
-  -- each operation ended as it may
-  pub ends : AllByRecursion (EndsAsAsked (marks_of entries)) (marks_of entries)
-  -- each get that ended ok gave what was put under its id
-  pub safe : AreDistinct (drawn (marks_of entries)) → IsSafe (marks_of entries)
 
 -- what holds of the bytes that a source gave and of those that are left, where it tells them
 abbrev pub Read : Option (List ℕ) → Option (List ℕ) → (List ℕ → List ℕ → Type 0) → Type 0
@@ -91,7 +101,7 @@ outside_of left_old left_new taken_old taken_new words_old words_new =
     record { left_old = left_old; left_new = left_new; taken_old = taken_old; taken_new = taken_new; words_old = words_old; words_new = words_new }
 
 -- A run to the end of its script: each operation has ended, the whole transcript was written, and the ids were drawn with the words that were given.
-pub record HasFinished (status : ℕ) (o : Outside) : Type 0 where
+pub record HasFinished (partitions : ℕ) (tie : List HistoryMark → Type 0) (status : ℕ) (o : Outside) : Type 0 where
   pub lines : List (List ℕ)
   pub entries : List Entry
   pub ending : Ending
@@ -101,43 +111,85 @@ pub record HasFinished (status : ℕ) (o : Outside) : Type 0 where
   pub status_is : status ≡ status_of ending (has_bad entries)
   pub read : Read o.left_old o.left_new (HasEnded ending lines)
   pub wrote : Wrote o.taken_old o.taken_new (λ wrote. wrote ≡ transcript_of (tags_after [] lines) entries)
-  pub draws : DrawsInOrder o.words_old (marks_of entries) o.words_new
+  pub draws : DrawsInOrder partitions o.words_old (marks_of entries) o.words_new
+  pub tied : tie (newest_first (marks_of entries))
 
 -- A run that stopped between two lines, at status 3 or 6: the transcript of the lines that were carried out was written, and no end line since.
 -- At 6 the line that was refused memory may have taken random words.
-pub record HasStopped (o : Outside) (words_new : Option (ℕ → ℕ)) : Type 0 where
+pub record HasStopped (partitions : ℕ) (tie : List HistoryMark → Type 0) (o : Outside) (words_new : Option (ℕ → ℕ)) : Type 0 where
   pub lines : List (List ℕ)
   pub entries : List Entry
   pub past : IsPastOf false lines entries
   pub ended_last : OnlyLastEnds lines
   pub read : Read o.left_old o.left_new (λ text left. AreRead lines text)
   pub wrote : Wrote o.taken_old o.taken_new (λ wrote. wrote ≡ transcript_of (tags_after [] lines) entries)
-  pub draws : DrawsInOrder o.words_old (marks_of entries) words_new
+  pub draws : DrawsInOrder partitions o.words_old (marks_of entries) words_new
+  pub tied : tie (newest_first (marks_of entries))
 
 -- A run whose output failed: what was written is a front of the transcript.
-pub record WasCutOff (o : Outside) : Type 0 where
+pub record WasCutOff (partitions : ℕ) (tie : List HistoryMark → Type 0) (o : Outside) : Type 0 where
   pub lines : List (List ℕ)
   pub entries : List Entry
   pub past : IsPastOf true lines entries
   pub ended_last : OnlyLastEnds lines
   pub read : Read o.left_old o.left_new (λ text left. AreRead lines text)
   pub wrote : Wrote o.taken_old o.taken_new (IsFront (transcript_of (tags_after [] lines) entries))
-  pub draws : DrawsInOrder o.words_old (marks_of entries) o.words_new
-
--- the one command line
-abbrev pub good_words : List (List ℕ)
-good_words = codes "run" ∷ codes "--nodes" ∷ codes "1" ∷ []
+  pub draws : DrawsInOrder partitions o.words_old (marks_of entries) o.words_new
+  pub tied : tie (newest_first (marks_of entries))
 
 abbrev pub usage_line : List ℕ
 usage_line = codes "usage" ++ 10 ∷ []
 
--- Words outside the grammar: nothing was read or drawn, and the line that says so was written, or a front of it where the output failed.
-pub record WasRefused (status : ℕ) (o : Outside) : Type 0 where
+-- each request to a replica that is still open has seen fewer than 65,536 events
+abbrev pub RequestsEndInTime : Shape → Record → Type 0
+RequestsEndInTime shape record' = (a : Asked) → Has (Notes.asked record') a → IsSome (replica_of shape a.partition a.node) → is_open (ends shape record') a ≡ true → events_in record' < a.events + 65536
+
+-- What is told of a run by its moves and marks: a record of the network's steps and events and of a session's items, woven. The steps are those of an
+-- opening, of sends, and of just these moves, in order and by the rule of moves, on replicas that held nothing; they are allowed. A router kept
+-- its rules, and where the ids that it drew are new the record is safe. No request to a replica stays open for 65,536 events.
+pub record IsRecorded (shape : Shape) (moves : List Move) (marks : List HistoryMark) : Type 0 where
+  pub calls : List Called
+  pub played : IsPlayed shape moves calls
+  pub record' : Record
+  pub woven : IsWoven (λ r. r ≡ record') calls marks
+  pub run : Run nothing_held record'
+  pub kept : IsKept (simple_rules shape) record'
+  pub safe : Each DrawsFresh record' → Safe (simple_rules shape) nothing_held record'
+  pub in_time : RequestsEndInTime shape record'
+
+-- Nothing was read, drawn or written.
+pub record IsUntouched (o : Outside) : Type 0 where
+  pub source : o.left_new ≡ o.left_old
+  pub sink : o.taken_new ≡ o.taken_old
+  pub random : o.words_new ≡ o.words_old
+
+-- The run came to the end of its script, or it stopped because the input failed, or the output did. Each move that was given was made.
+pub record HasPlayed (shape : Shape) (given given' : List Move) (status : ℕ) (o : Outside) : Type 0 where
+  pub moves : List Move
+  pub gave : given' ≡ given ++ moves
+  pub run : HasFinished shape.partitions (IsRecorded shape moves) status o
+      ⊎ ((status ≡ 3) × HasStopped shape.partitions (IsRecorded shape moves) o o.words_new)
+      ⊎ ((status ≡ 4) × WasCutOff shape.partitions (IsRecorded shape moves) o)
+
+-- The run stopped for want of memory: what stands is of the lines before, and moves may have been given since. The line that was refused
+-- memory may have taken random words.
+pub record HasStarved (shape : Shape) (given given' : List Move) (o : Outside) : Type 0 where
+  pub moves : List Move
+  pub since : List Move
+  pub gave : given' ≡ given ++ (moves ++ since)
+  pub words : Option (ℕ → ℕ)
+  pub stopped : HasStopped shape.partitions (IsRecorded shape moves) o words
+
+-- What a run may leave on a cluster of this shape: it came to its end or stopped, or was refused memory at a line, or before all lines.
+abbrev pub HasRun : Shape → List Move → List Move → ℕ → Outside → Type 0
+HasRun shape given given' status o =
+    HasPlayed shape given given' status o
+    ⊎ ((status ≡ 6) × HasStarved shape given given' o)
+    ⊎ ((status ≡ 6) × IsUntouched o × ((since : List Move) × (given' ≡ given ++ since)))
+
+-- Words outside the grammar: nothing was read, drawn or moved, and the line that says so was written, or a front of it where the output failed.
+pub record WasRefused (status : ℕ) (given given' : List Move) (o : Outside) : Type 0 where
   pub source : o.left_new ≡ o.left_old
   pub random : o.words_new ≡ o.words_old
+  pub moves : given' ≡ given
   pub answer : ((status ≡ 1) × Wrote o.taken_old o.taken_new (λ wrote. wrote ≡ usage_line)) ⊎ ((status ≡ 4) × Wrote o.taken_old o.taken_new (IsFront usage_line))
-
--- Words in the grammar: the run came to the end of its script, or it stopped because the input failed or memory was refused, or the output failed.
-abbrev pub HasRun : ℕ → Outside → Type 0
-HasRun status o =
-    HasFinished status o ⊎ (((status ≡ 3) × HasStopped o o.words_new) ⊎ (((status ≡ 4) × WasCutOff o) ⊎ ((status ≡ 6) × ((words : Option (ℕ → ℕ)) × HasStopped o words))))

@@ -1,13 +1,17 @@
 -- A run between two script lines.
 use Rattle.std.specs.Prelude.{◌≡◌, ℕ, List, [], ◌∷◌, ◌++◌, length, Option, None, Some}
 use Rattle.std.specs.Io.KnownBytes.{Appends}
-use Rattle.cell_model.specs.Asks.{Told}
+use Rattle.world_model.specs.declared.history.HistoryMark.{HistoryMark}
+use Rattle.world_model.specs.declared.shape.Shape.{Shape}
+use Rattle.world_model.specs.declared.step.Called.{Called}
+use Rattle.world_model.specs.Fabric.{Image, KeepsRun}
+use Rattle.router_core.specs.Fits.{RouterView}
 use Rattle.front_end.specs.declared.run.Ending.{Ending}
 use Rattle.front_end.specs.declared.session.Session.{Session}
 use Rattle.front_end.specs.Lines.{BeginsWith}
 use Rattle.front_end.specs.Run.{Wrote, Read, HasEnded}
 use Rattle.front_end.specs.Script.{NoneEnds, OnlyLastEnds}
-use Rattle.front_end.specs.Session.{State, Keeps, StandsAt, transcript_so_far}
+use Rattle.front_end.specs.Session.{State, Keeps, StandsAt, Finishes, transcript_so_far, ties_of}
 
 -- What was read so far begins with the lines that were carried out, and the rest waits or is left.
 abbrev pub ReadSoFar : Option (List ℕ) → Option (List ℕ) → List ℕ → ℕ → List (List ℕ) → Type 0
@@ -15,31 +19,31 @@ ReadSoFar None new waiting total lines = Unit {0}
 ReadSoFar (Some old) None waiting total lines = ⊥
 ReadSoFar (Some old) (Some new) waiting total lines = BeginsWith old lines (waiting ++ new) × ((gone : List ℕ) × (old ≡ gone ++ new) × (total ≡ length gone))
 
-pub record IsRunning (left_old left_new taken_old taken_new : Option (List ℕ)) (waiting : List ℕ) (total : ℕ) (s : Session) (told : Told) (first now : Option (ℕ → ℕ)) : Type 0 where
+pub record IsRunning (partitions : ℕ) (left_old left_new taken_old taken_new : Option (List ℕ)) (waiting : List ℕ) (total : ℕ) (s : Session) (tie : List HistoryMark → Type 0) (first now : Option (ℕ → ℕ)) : Type 0 where
   pub lines : List (List ℕ)
   pub state : State
   pub keeps : Keeps s state
-  pub stands : StandsAt lines state told first now
+  pub stands : StandsAt partitions lines state tie first now
   pub counted : state.lines ≡ length lines
   pub unended : NoneEnds [] lines
   pub read : ReadSoFar left_old left_new waiting total lines
   pub wrote : Wrote taken_old taken_new (λ wrote. wrote ≡ transcript_so_far state)
 
 -- A line was carried out, and these bytes of what it adds to the transcript were written.
-pub record RanLine (line : List ℕ) (lines : List (List ℕ)) (old : State) (new : Session) (told : Told) (first now : Option (ℕ → ℕ)) (taken_old taken_new : Option (List ℕ)) (written : List ℕ → List ℕ → Type 0) : Type 0 where
+pub record RanLine (partitions : ℕ) (line : List ℕ) (lines : List (List ℕ)) (old : State) (new : Session) (tie : List HistoryMark → Type 0) (first now : Option (ℕ → ℕ)) (taken_old taken_new : Option (List ℕ)) (written : List ℕ → List ℕ → Type 0) : Type 0 where
   pub state : State
   pub keeps : Keeps new state
-  pub stands : StandsAt (lines ++ line ∷ []) state told first now
+  pub stands : StandsAt partitions (lines ++ line ∷ []) state tie first now
   pub added : List ℕ
   pub bytes : List ℕ
   pub part : written added bytes
   pub wrote : Appends taken_old taken_new bytes
   pub transcript : transcript_so_far state ≡ transcript_so_far old ++ added
 
-abbrev pub RunsLine : List ℕ → Session → Session → Told → Told → Option (ℕ → ℕ) → Option (ℕ → ℕ) → Option (List ℕ) → Option (List ℕ) → (List ℕ → List ℕ → Type 0) → Type 0
-RunsLine line old new before now words_before words_now taken_old taken_new written =
-    (lines : List (List ℕ)) (state : State) (first : Option (ℕ → ℕ)) → Keeps old state → StandsAt lines state before first words_before → state.lines ≡ length lines
-    → RanLine line lines state new now first words_now taken_old taken_new written
+abbrev pub RunsLine : ℕ → List ℕ → Session → Session → (before now : List HistoryMark → Type 0) → Option (ℕ → ℕ) → Option (ℕ → ℕ) → Option (List ℕ) → Option (List ℕ) → (List ℕ → List ℕ → Type 0) → Type 0
+RunsLine partitions line old new before now words_before words_now taken_old taken_new written =
+    (lines : List (List ℕ)) (state : State) (first : Option (ℕ → ℕ)) → Keeps old state → StandsAt partitions lines state before first words_before → state.lines ≡ length lines
+    → RanLine partitions line lines state new now first words_now taken_old taken_new written
 
 -- all the bytes, or a front of them
 abbrev pub IsAll : List ℕ → List ℕ → Type 0
@@ -49,11 +53,44 @@ abbrev pub IsSome : List ℕ → List ℕ → Type 0
 IsSome added bytes = (rest : List ℕ) × (added ≡ bytes ++ rest)
 
 -- The lines of the script were carried out.
-pub record RanLines (left_old left_new taken_old taken_new : Option (List ℕ)) (s : Session) (told : Told) (first now : Option (ℕ → ℕ)) (ending : Ending) : Type 0 where
+pub record RanLines (partitions : ℕ) (left_old left_new taken_old taken_new : Option (List ℕ)) (s : Session) (tie : List HistoryMark → Type 0) (first now : Option (ℕ → ℕ)) (ending : Ending) : Type 0 where
   pub lines : List (List ℕ)
   pub state : State
   pub keeps : Keeps s state
-  pub stands : StandsAt lines state told first now
+  pub stands : StandsAt partitions lines state tie first now
   pub ended_last : OnlyLastEnds lines
   pub read : Read left_old left_new (HasEnded ending lines)
   pub wrote : Wrote taken_old taken_new (λ wrote. wrote ≡ transcript_so_far state)
+
+-- The last operation has its end, and these bytes of the end's line were written.
+pub record Closes (old new : Session) (before now : List HistoryMark → Type 0) (taken_old taken_new : Option (List ℕ)) (written : List ℕ → List ℕ → Type 0) : Type 0 where
+  pub added : List ℕ
+  pub finished : Finishes old new before now [] added
+  pub bytes : List ℕ
+  pub part : written added bytes
+  pub wrote : Appends taken_old taken_new bytes
+
+-- what a network tells, and what it may become by answered calls, and by calls that may find no memory
+pub record Telling (F : Type 0) : Type 1 where
+  pub told : F → Option (List Called)
+  pub image : F → Shape → List ℕ → Option Image
+  pub goes : F → F → Type 0
+  pub falls : F → F → Type 0
+
+-- a network's calls are still a run where they were one
+abbrev pub StillRuns : {F : Type 0} → Telling F → F → F → Type 0
+StillRuns t old new = (cluster : Shape) (place : List ℕ) → KeepsRun (t.told old) (t.image old cluster place) (t.told new) (t.image new cluster place)
+
+-- By answered calls alone a network became this one, and so it holds of what ties a router of this shape to its calls.
+pub record IsOn {F : Type 0} (t : Telling F) (shape : Shape) (old new : F) (holds : (List HistoryMark → Type 0) → Type 0) : Type 0 where
+  pub router : RouterView
+  pub shaped : router.shape ≡ shape
+  pub went : t.goes old new
+  pub run : StillRuns t old new
+  pub so : holds (ties_of router (t.told new))
+
+-- So it was, before a line or the end of the script was refused memory.
+pub record WasOn {F : Type 0} (t : Telling F) (shape : Shape) (old new : F) (holds : (List HistoryMark → Type 0) → Type 0) : Type 0 where
+  pub between : F
+  pub was : IsOn t shape old between holds
+  pub fell : t.falls between new

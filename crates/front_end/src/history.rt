@@ -1,42 +1,12 @@
-//! What happened in a session, in order.
+//! What a session keeps of its past.
 
 ghost use Rattle.std.specs.Prelude.{◌≡◌};
 ghost use Rattle.front_end.specs.Outline.{outline_begun, outline_outcome, outline_entry};
 
-use blob_id::{BlobId, Bytes};
+use blob_id::Bytes;
+use quorum_op::Outcome;
 use std::alloc::Global;
-
-/// How an operation ended.
-#[derive(Debug, Drop)]
-pub enum Outcome {
-    /// A put is stored under this id.
-    Put(BlobId),
-    /// A get gave these bytes.
-    Bytes(Bytes),
-    /// No put of that tag had ended ok.
-    NoId,
-    /// The blob is longer than the limit.
-    TooLarge(u64),
-    /// An allocation was refused.
-    Memory,
-}
-
-/// What an operation was asked to do.
-#[derive(Debug, Drop)]
-pub enum Begun {
-    Put { body: Bytes },
-    Get { id: Option<BlobId> },
-}
-
-/// A moment of a session. The first number is the operation's, from 1.
-#[derive(Debug, Drop)]
-pub enum HistoryMark {
-    Begin(u32, Begun),
-    Drew(u32, BlobId),
-    End(u32, Outcome),
-    /// The script waits for one operation, or for all.
-    Wait(Option<u32>),
-}
+use world_model::{Begun, HistoryMark};
 
 /// What happened between two lines of the transcript: a mark of the history, or a bad line.
 #[derive(Debug, Drop)]
@@ -65,8 +35,18 @@ fn outline_of_begun(alloc: Global, begun: Begun) -> Begun
     ensures { result ≡ outline_begun begun }
 {
     match begun {
-        Begun::Put { body: _ } => Begun::Put {
+        Begun::Put {
+            file,
+            body: _,
+            ttl,
+            ctype,
+            meta,
+        } => Begun::Put {
+            file,
             body: Bytes::new(alloc),
+            ttl,
+            ctype,
+            meta,
         },
         other => other,
     }

@@ -1,7 +1,8 @@
-//! A session: a script comes in, operations run on the replicas, and a transcript goes out.
+//! A session: a script comes in, operations run on the replicas of a cluster, and a transcript goes out.
 #![tactic(auto)]
 
 mod history;
+mod lab;
 mod lines;
 mod run;
 mod script;
@@ -9,15 +10,14 @@ mod session;
 mod tags;
 mod transcript;
 
-pub use history::{Begun, Entry, HistoryMark, Outcome};
+pub use history::Entry;
+pub use lab::run_lab;
 pub use lines::{LineReader, Next, Stop};
-pub use run::run_lab;
+pub use run::Ending;
 pub use script::{Command, read_line};
-pub use session::{Live, Session};
+pub use session::Session;
 pub use tags::{Tag, Tags};
 pub use transcript::{write_entry, write_outcome};
 
 #[cfg(test)]
 mod tests;
-#[cfg(test)]
-mod tests_text;

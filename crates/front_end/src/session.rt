@@ -1,45 +1,41 @@
 //! A session, as a machine over script lines: each line changes what it keeps and adds lines to the transcript.
 
-ghost use Rattle.std.specs.Prelude.{◌≡◌, ◌≢◌, MatchBool, ◌≤◌, ◌<◌, ◌+◌, ◌-◌, ◌^◌, ◌++◌, ◌∷◌, [], List, ℕ, length, true, false, OnOk, IfOk, Some, None, Option, slice_set};
-ghost use Rattle.cell_model.specs.Plain.{plain_told, AllHoldBlobs};
-ghost use Rattle.front_end.specs.declared.history.HistoryMark.TheVariants.{Begin, Drew, End};
+ghost use Rattle.std.specs.Prelude.{◌≡◌, ◌≢◌, MatchBool, ◌≤◌, ◌<◌, ◌+◌, ◌-◌, ◌^◌, ◌++◌, ◌∷◌, [], List, ℕ, length, true, false, OnOk, IfOk, Some, None, Option, slice_set, IfSome};
+ghost use Rattle.std.specs.List.{AllByRecursion};
+ghost use Rattle.quorum_op.specs.declared.outcome.Outcome.TheVariants as outcome;
+ghost use Rattle.world_model.specs.declared.history.Begun.{Begun};
+ghost use Rattle.world_model.specs.declared.history.HistoryMark.{HistoryMark};
+ghost use Rattle.world_model.specs.declared.history.HistoryMark.TheVariants.{Begin, Drew, End};
+ghost use Rattle.world_model.specs.declared.shape.Shape.{Shape};
+ghost use Rattle.world_model.specs.declared.step.Called.{Called};
+ghost use Rattle.world_model.specs.Fabric.{KeepsRun};
+ghost use Rattle.world_model.specs.Pieces.{is_composite, is_simple};
+ghost use Rattle.world_model.specs.Shape.{IsShape};
 ghost use Rattle.front_end.specs.declared.history.Entry.TheVariants.{Mark, Bad};
-ghost use Rattle.front_end.specs.declared.history.Outcome.TheVariants.{TooLarge};
 ghost use Rattle.front_end.specs.declared.script.Command.TheVariants.{End as TheEnd};
-ghost use Rattle.cell_model.specs.Asks.{Told};
 ghost use Rattle.front_end.specs.Outline.{outline_begun, outline_entry};
 ghost use Rattle.front_end.specs.Script.{command_of, tag_number};
+ghost use Rattle.router_core.specs.Stands.{Stands, is_idle};
 ghost use Rattle.front_end.specs.Transcript.{entry_line};
-ghost use Rattle.front_end.specs.Past.{named_by};
-ghost use Rattle.front_end.specs.Kept.{IsWithin};
-ghost use Rattle.front_end.specs.Session.{State, Keeps, Becomes, StandsAt, HasGoneOn, entries_of, finished, ending_of, ended_by, begun_by, refused_by, put_outcome, get_outcome, answer_at, answer_in, answered, IsLeft, Stores, GetsId, AsksPut, AsksGet, AsksWait, CarriesOut, nothing_yet};
+ghost use Rattle.front_end.specs.Past.{answer_in, named_by};
+ghost use Rattle.front_end.specs.Session.{State, Keeps, Becomes, StandsAt, HasGoneOn, IsReady, IsSimpleAnswer, Finishes, Starts, Stores, entries_of, ended_by, begun_by, refused_by, answer_at, answered, AsksPut, AsksGet, AsksWait, CarriesOut, get_of, nothing_yet, put_of, ties_of};
 
-use crate::history::{Begun, Entry, HistoryMark, Outcome, outline_of};
+use crate::history::{Entry, outline_of};
 use crate::script::{Command, read_line};
 use crate::tags::Tags;
 use crate::transcript::write_entry;
-use blob_id::{Blob, BlobId, Bytes, Kind, Listed, Memory};
-use cell_model::{Ask, PlainReplica, ReplicaPort, Reply};
+use blob_id::{BlobId, Bytes, Kind, Listed, Memory};
 use outside::Random;
+use quorum_op::Outcome;
+use router_core::{Ended, Router};
 use std::alloc::Global;
-
-const BLOB_LIMIT: usize = 65_536;
-
-const PARTITIONS: u32 = 4;
-
-/// An operation that has begun and whose end line doesn't stand yet.
-#[derive(Drop)]
-pub struct Live {
-    pub number: u32,
-    pub outcome: Outcome,
-}
+use world_model::{Begun, Fabric, HistoryMark, Shape};
 
 /// What a session keeps.
 #[derive(Drop)]
 pub struct Session {
     /// The tags of the operations, in the order in which they began.
     pub tags: Tags,
-    pub live: Option<Live>,
     /// How many script lines were carried out.
     pub lines: u32,
     pub bad: bool,
@@ -49,52 +45,76 @@ pub struct Session {
     pub later: Listed<Entry>,
     /// The id that each operation was answered with, so that `$TAG` needs no look through the past.
     pub answers: Vec<Option<BlobId>>,
+    pub router: Router,
 }
 
 impl Session {
-    pub fn new(alloc: Global) -> Self
-        ensures { Keeps result nothing_yet }
+    pub fn new(alloc: Global, shape: Shape) -> Self
+        requires shape { IsShape shape }
+        requires limit { shape.chunk ≡ 65536 }
+        ensures keeps { Keeps result nothing_yet }
+        ensures ready { IsReady result }
+        ensures shape { result.router.shape ≡ shape }
+        ensures stands { Stands result.router [] }
     {
         Session {
             tags: Tags::new(alloc),
-            live: None,
             lines: 0,
             bad: false,
             settled: Listed::new(alloc),
             later: Listed::new(alloc),
             answers: Vec::new(alloc),
+            router: Router::new(shape),
         }
     }
 
-    /// Ends the live operation.
-    pub fn finish(&mut self, alloc: Global, out: &mut Vec<u8>) -> Result<(), Memory>
-        ensures state { OnOk result (Becomes self.old self.new finished) }
+    /// Takes events until the last operation is over, and ends it.
+    pub fn finish<F: Fabric>(
+        &mut self,
+        alloc: Global,
+        fabric: &mut F,
+        out: &mut Vec<u8>,
+    ) -> Result<(), Memory>
+        requires ready { IsReady self.old }
+        requires open { F.opened fabric.old ≡ Some self.old.router.shape }
+        ensures finished { OnOk result (Finishes self.old self.new (ties_of self.old.router (F.told fabric.old)) (ties_of self.new.router (F.told fabric.new)) out.old.items out.new.items) }
+        ensures idle { OnOk result (is_idle self.new.router.stage ≡ true) }
         ensures lines { OnOk result (self.new.lines ≡ self.old.lines) }
         ensures tags { OnOk result (self.new.tags ≡ self.old.tags) }
-        ensures told { OnOk result (out.new.items ≡ out.old.items ++ ending_of self.old.tags self.old.live) }
+        ensures ready { OnOk result (IsReady self.new) }
+        ensures shape { self.new.router.shape ≡ self.old.router.shape }
+        ensures opened { F.opened fabric.new ≡ F.opened fabric.old }
+        ensures run { (cluster : Shape) (place : List ℕ) → KeepsRun (F.told fabric.old) (F.image fabric.old cluster place) (F.told fabric.new) (F.image fabric.new cluster place) }
+        ensures goes { OnOk result (F.goes fabric.old fabric.new) }
+        ensures falls { F.falls fabric.old fabric.new }
     {
-        match self.live.take() {
+        match self.router.finish(alloc, fabric)? {
             None => Ok(()),
-            Some(live) => {
-                self.end(alloc, live, out)?;
+            Some(ended) => {
+                self.end(alloc, ended, out)?;
                 Ok(())
             }
         }
     }
 
-    /// Adds the end of an operation that was live.
-    fn end(&mut self, alloc: Global, live: Live, out: &mut Vec<u8>) -> Result<(), Memory>
-        ensures state { OnOk result ((state : State) → IsWithin (length state.tags) live.number → Keeps self.old state → Keeps self.new (ended_by state live)) }
+    /// Adds the end of an operation.
+    fn end(&mut self, alloc: Global, ended: Ended, out: &mut Vec<u8>) -> Result<(), Memory>
+        requires ready { IsReady self.old }
+        requires last { ended.operation ≡ length self.old.tags }
+        requires simple { (id : List ℕ) → ended.outcome ≡ outcome.Put id → is_simple id ≡ true }
+        ensures state { OnOk result ((state : State) → 0 < length state.tags → Keeps self.old state → Keeps self.new (ended_by state (length state.tags) ended.outcome)) }
         ensures lines { OnOk result (self.new.lines ≡ self.old.lines) }
         ensures tags { OnOk result (self.new.tags ≡ self.old.tags) }
-        ensures told { OnOk result (out.new.items ≡ out.old.items ++ ending_of self.old.tags (Some live)) }
+        ensures told { OnOk result (out.new.items ≡ out.old.items ++ entry_line self.old.tags (Mark (End (length self.old.tags) ended.outcome))) }
+        ensures ready { OnOk result (IsReady self.new) }
+        ensures router { self.new.router ≡ self.old.router }
     {
-        let Live { number, outcome } = live;
+        let Ended { operation, outcome } = ended;
         let answer = answer_in(&outcome);
-        let entry = Entry::Mark(HistoryMark::End(number, outcome));
+        let entry = Entry::Mark(HistoryMark::End(operation, outcome));
         write_entry(out, &self.tags, &entry)?;
         self.later.push(outline_of(alloc, entry))?;
-        answer_with(&mut self.answers, number, answer);
+        answer_with(&mut self.answers, operation, answer);
         Ok(())
     }
 
@@ -103,7 +123,7 @@ impl Session {
         ensures settled { OnOk result (self.new.settled ≡ (self.old.settled ++ self.old.later) ++ entry ∷ []) }
         ensures later { OnOk result (self.new.later ≡ []) }
         ensures tags { self.new.tags ≡ self.old.tags }
-        ensures live { self.new.live ≡ self.old.live }
+        ensures router { self.new.router ≡ self.old.router }
         ensures lines { self.new.lines ≡ self.old.lines }
         ensures bad { self.new.bad ≡ self.old.bad }
         ensures answers { self.new.answers ≡ self.old.answers }
@@ -114,10 +134,13 @@ impl Session {
 
     /// A bad line.
     fn refuse(&mut self, out: &mut Vec<u8>) -> Result<(), Memory>
+        requires ready { IsReady self.old }
         ensures state { OnOk result (Becomes self.old self.new refused_by) }
         ensures lines { OnOk result (self.new.lines ≡ self.old.lines) }
         ensures tags { OnOk result (self.new.tags ≡ self.old.tags) }
         ensures told { OnOk result (out.new.items ≡ out.old.items ++ entry_line self.old.tags (Bad self.old.lines)) }
+        ensures ready { OnOk result (IsReady self.new) }
+        ensures router { self.new.router ≡ self.old.router }
     {
         let entry = Entry::Bad(self.lines);
         write_entry(out, &self.tags, &entry)?;
@@ -137,12 +160,15 @@ impl Session {
     ) -> Result<u32, Memory>
         requires count { length self.old.tags < 2 ^ 32 - 1 }
         requires fresh { tag_number self.old.tags name ≡ None }
+        requires simple { AllByRecursion IsSimpleAnswer self.old.answers.items }
         ensures number { IfOk result (λ n. n ≡ length self.old.tags + 1) }
         ensures state { OnOk result ((state : State) (request : Begun) → Keeps self.old state → outline_begun request ≡ begun
             → Keeps self.new (begun_by state (record { name = name; is_put = is_put }) request)) }
         ensures lines { OnOk result (self.new.lines ≡ self.old.lines) }
         ensures tags { OnOk result (self.new.tags ≡ self.old.tags ++ record { name = name; is_put = is_put } ∷ []) }
         ensures told { OnOk result (out.new.items ≡ out.old.items ++ entry_line (self.old.tags ++ record { name = name; is_put = is_put } ∷ []) (Mark (Begin (length self.old.tags + 1) begun))) }
+        ensures simple { OnOk result (AllByRecursion IsSimpleAnswer self.new.answers.items) }
+        ensures router { self.new.router ≡ self.old.router }
     {
         let number = self.tags.len() as u32 + 1;
         self.tags.push(alloc, name, is_put)?;
@@ -154,153 +180,201 @@ impl Session {
     }
 
     /// Draws an id for an operation and puts its blob.
-    fn store<U: Random>(
+    fn store<U: Random, F: Fabric>(
         &mut self,
         alloc: Global,
-        number: u32,
         body: Bytes,
         random: &mut U,
-        replica: &mut PlainReplica,
+        fabric: &mut F,
         out: &mut Vec<u8>,
-    ) -> Result<Outcome, Memory>
-        requires number { 0 < number }
+    ) -> Result<(), Memory>
+        requires begun { self.old.router.begun + 1 ≡ length self.old.tags }
+        requires idle { is_idle self.old.router.stage ≡ true }
+        requires number { length self.old.tags < 2 ^ 31 }
         requires limit { length body ≤ 65536 }
-        requires ready { AllHoldBlobs replica.old }
-        ensures stored { IfOk result (λ outcome. Stores number body self.old self.new (plain_told replica.old) (plain_told replica.new) (U.ahead random.old) (U.ahead random.new) outcome out.old.items out.new.items) }
+        requires chunk { self.old.router.shape.chunk ≡ 65536 }
+        requires few { self.old.router.shape.partitions ≤ 64 }
+        requires simple { AllByRecursion IsSimpleAnswer self.old.answers.items }
+        requires open { F.opened fabric.old ≡ Some self.old.router.shape }
+        ensures stored { OnOk result (Stores self.old.router.shape.partitions (length self.old.tags) body self.old self.new (ties_of self.old.router (F.told fabric.old)) (ties_of self.new.router (F.told fabric.new)) (U.ahead random.old) (U.ahead random.new) out.old.items out.new.items) }
         ensures lines { OnOk result (self.new.lines ≡ self.old.lines) }
         ensures tags { OnOk result (self.new.tags ≡ self.old.tags) }
-        ensures ready { AllHoldBlobs replica.new }
+        ensures ready { OnOk result (IsReady self.new) }
+        ensures shape { self.new.router.shape ≡ self.old.router.shape }
+        ensures opened { F.opened fabric.new ≡ F.opened fabric.old }
+        ensures run { (cluster : Shape) (place : List ℕ) → KeepsRun (F.told fabric.old) (F.image fabric.old cluster place) (F.told fabric.new) (F.image fabric.new cluster place) }
+        ensures goes { OnOk result (F.goes fabric.old fabric.new) }
+        ensures falls { F.falls fabric.old fabric.new }
     {
         let high = random.word();
         let low = random.word();
-        let partition = ((number - 1) % PARTITIONS) as u16;
-        let id = BlobId::draw(Kind::Simple, partition, high, low);
-        let entry = Entry::Mark(HistoryMark::Drew(number, id));
+        let id = BlobId::draw(Kind::Simple, self.router.partition() as u16, high, low);
+        let entry = Entry::Mark(HistoryMark::Drew(self.tags.len() as u32, id));
         write_entry(out, &self.tags, &entry)?;
         self.later.push(entry)?;
-        let blob = Blob {
-            created: 0,
-            ctype: Bytes::new(alloc),
-            meta: Bytes::new(alloc),
-            body,
-        };
-        Ok(put_outcome(id, replica.ask(Ask::Put { id, blob })))
+        self.router.put(alloc, id, body, fabric)?;
+        Ok(())
     }
 
-    /// How a put ends: nothing is drawn for a blob that is too long.
-    fn put_body<U: Random>(
+    /// Goes on with a put that has begun: nothing is drawn for a blob that is too long.
+    fn put_body<U: Random, F: Fabric>(
         &mut self,
         alloc: Global,
-        number: u32,
         body: Bytes,
         random: &mut U,
-        replica: &mut PlainReplica,
+        fabric: &mut F,
         out: &mut Vec<u8>,
-    ) -> Result<Outcome, Memory>
-        requires number { 0 < number }
-        requires ready { AllHoldBlobs replica.old }
+    ) -> Result<(), Memory>
+        requires begun { self.old.router.begun + 1 ≡ length self.old.tags }
+        requires idle { is_idle self.old.router.stage ≡ true }
+        requires number { length self.old.tags < 2 ^ 31 }
+        requires chunk { self.old.router.shape.chunk ≡ 65536 }
+        requires few { self.old.router.shape.partitions ≤ 64 }
+        requires simple { AllByRecursion IsSimpleAnswer self.old.answers.items }
+        requires open { F.opened fabric.old ≡ Some self.old.router.shape }
+        ensures stored { length body ≤ 65536 → OnOk result (Stores self.old.router.shape.partitions (length self.old.tags) body self.old self.new (ties_of self.old.router (F.told fabric.old)) (ties_of self.new.router (F.told fabric.new)) (U.ahead random.old) (U.ahead random.new) out.old.items out.new.items) }
+        ensures refused { 65536 < length body → OnOk result (Starts (length self.old.tags) (put_of body) self.old self.new (ties_of self.old.router (F.told fabric.old)) (ties_of self.new.router (F.told fabric.new)) (U.ahead random.old) (U.ahead random.new) out.old.items out.new.items) }
         ensures lines { OnOk result (self.new.lines ≡ self.old.lines) }
         ensures tags { OnOk result (self.new.tags ≡ self.old.tags) }
-        ensures stored { length body ≤ 65536 → IfOk result (λ outcome. Stores number body self.old self.new (plain_told replica.old) (plain_told replica.new) (U.ahead random.old) (U.ahead random.new) outcome out.old.items out.new.items) }
-        ensures refused { 65536 < length body → IfOk result (λ outcome. IsLeft (TooLarge (length body)) self.old self.new (plain_told replica.old) (plain_told replica.new) (U.ahead random.old) (U.ahead random.new) outcome out.old.items out.new.items) }
-        ensures ready { AllHoldBlobs replica.new }
+        ensures ready { OnOk result (IsReady self.new) }
+        ensures shape { self.new.router.shape ≡ self.old.router.shape }
+        ensures opened { F.opened fabric.new ≡ F.opened fabric.old }
+        ensures run { (cluster : Shape) (place : List ℕ) → KeepsRun (F.told fabric.old) (F.image fabric.old cluster place) (F.told fabric.new) (F.image fabric.new cluster place) }
+        ensures goes { OnOk result (F.goes fabric.old fabric.new) }
+        ensures falls { F.falls fabric.old fabric.new }
     {
-        if body.len() > BLOB_LIMIT {
-            return Ok(Outcome::TooLarge(body.len() as u64));
+        if body.len() > self.router.limit() as usize {
+            self.router.put_too_large(body.len() as u64);
+            return Ok(());
         }
-        self.store(alloc, number, body, random, replica, out)
+        self.store(alloc, body, random, fabric, out)?;
+        Ok(())
     }
 
-    fn put<U: Random>(
+    fn put<U: Random, F: Fabric>(
         &mut self,
         alloc: Global,
         name: Bytes,
         body: Bytes,
         random: &mut U,
-        replica: &mut PlainReplica,
+        fabric: &mut F,
         out: &mut Vec<u8>,
     ) -> Result<(), Memory>
-        requires count { length self.old.tags < 2 ^ 32 - 1 }
+        requires count { length self.old.tags < 2 ^ 31 - 1 }
         requires fresh { tag_number self.old.tags name ≡ None }
-        requires ready { AllHoldBlobs replica.old }
+        requires ready { IsReady self.old }
+        requires open { F.opened fabric.old ≡ Some self.old.router.shape }
         ensures lines { OnOk result (self.new.lines ≡ self.old.lines) }
         ensures tags { OnOk result (length self.new.tags ≡ length self.old.tags + 1) }
         ensures carried { OnOk result ((line : List ℕ) → AsksPut self.old.tags line name body
-            → CarriesOut line self.old self.new (plain_told replica.old) (plain_told replica.new) (U.ahead random.old) (U.ahead random.new) out.old.items out.new.items) }
-        ensures ready { AllHoldBlobs replica.new }
+            → CarriesOut self.old.router.shape.partitions line self.old self.new (ties_of self.old.router (F.told fabric.old)) (ties_of self.new.router (F.told fabric.new)) (U.ahead random.old) (U.ahead random.new) out.old.items out.new.items) }
+        ensures ready { OnOk result (IsReady self.new) }
+        ensures shape { self.new.router.shape ≡ self.old.router.shape }
+        ensures opened { F.opened fabric.new ≡ F.opened fabric.old }
+        ensures run { (cluster : Shape) (place : List ℕ) → KeepsRun (F.told fabric.old) (F.image fabric.old cluster place) (F.told fabric.new) (F.image fabric.new cluster place) }
+        ensures goes { OnOk result (F.goes fabric.old fabric.new) }
+        ensures falls { F.falls fabric.old fabric.new }
     {
-        self.finish(alloc, out)?;
+        self.finish(alloc, fabric, out)?;
         let begun = Begun::Put {
+            file: Bytes::new(alloc),
             body: Bytes::new(alloc),
+            ttl: 0,
+            ctype: Bytes::new(alloc),
+            meta: Bytes::new(alloc),
         };
-        let number = self.begin(alloc, name, true, begun, out)?;
-        let outcome = self.put_body(alloc, number, body, random, replica, out)?;
-        self.live = Some(Live { number, outcome });
+        let _number = self.begin(alloc, name, true, begun, out)?;
+        self.put_body(alloc, body, random, fabric, out)?;
         Ok(())
     }
 
-    fn get(
+    fn get<F: Fabric>(
         &mut self,
         alloc: Global,
         name: Bytes,
         of: Bytes,
-        replica: &mut PlainReplica,
+        fabric: &mut F,
         out: &mut Vec<u8>,
     ) -> Result<(), Memory>
-        requires count { length self.old.tags < 2 ^ 32 - 1 }
+        requires count { length self.old.tags < 2 ^ 31 - 1 }
         requires fresh { tag_number self.old.tags name ≡ None }
-        requires ready { AllHoldBlobs replica.old }
+        requires ready { IsReady self.old }
+        requires open { F.opened fabric.old ≡ Some self.old.router.shape }
         ensures lines { OnOk result (self.new.lines ≡ self.old.lines) }
         ensures tags { OnOk result (length self.new.tags ≡ length self.old.tags + 1) }
         ensures carried { OnOk result ((line : List ℕ) (words : Option (ℕ → ℕ)) → AsksGet self.old.tags line name of
-            → CarriesOut line self.old self.new (plain_told replica.old) (plain_told replica.new) words words out.old.items out.new.items) }
-        ensures ready { AllHoldBlobs replica.new }
+            → CarriesOut self.old.router.shape.partitions line self.old self.new (ties_of self.old.router (F.told fabric.old)) (ties_of self.new.router (F.told fabric.new)) words words out.old.items out.new.items) }
+        ensures ready { OnOk result (IsReady self.new) }
+        ensures shape { self.new.router.shape ≡ self.old.router.shape }
+        ensures opened { F.opened fabric.new ≡ F.opened fabric.old }
+        ensures run { (cluster : Shape) (place : List ℕ) → KeepsRun (F.told fabric.old) (F.image fabric.old cluster place) (F.told fabric.new) (F.image fabric.new cluster place) }
+        ensures goes { OnOk result (F.goes fabric.old fabric.new) }
+        ensures falls { F.falls fabric.old fabric.new }
     {
-        self.finish(alloc, out)?;
+        self.finish(alloc, fabric, out)?;
         let id = self.named(of.as_slice());
-        let number = self.begin(alloc, name, false, Begun::Get { id }, out)?;
-        let outcome = get_id(&id, replica);
-        self.live = Some(Live { number, outcome });
+        let begun = begun_get(alloc, &id);
+        let _number = self.begin(alloc, name, false, begun, out)?;
+        self.router.get(alloc, id, fabric)?;
         Ok(())
     }
 
-    fn wait(&mut self, alloc: Global, out: &mut Vec<u8>) -> Result<(), Memory>
+    fn wait<F: Fabric>(
+        &mut self,
+        alloc: Global,
+        fabric: &mut F,
+        out: &mut Vec<u8>,
+    ) -> Result<(), Memory>
+        requires ready { IsReady self.old }
+        requires open { F.opened fabric.old ≡ Some self.old.router.shape }
         ensures lines { OnOk result (self.new.lines ≡ self.old.lines) }
         ensures tags { OnOk result (length self.new.tags ≡ length self.old.tags) }
-        ensures carried { OnOk result ((line : List ℕ) (told : Told) (words : Option (ℕ → ℕ)) → AsksWait self.old.tags line
-            → CarriesOut line self.old self.new told told words words out.old.items out.new.items) }
+        ensures carried { OnOk result ((line : List ℕ) (words : Option (ℕ → ℕ)) → AsksWait self.old.tags line
+            → CarriesOut self.old.router.shape.partitions line self.old self.new (ties_of self.old.router (F.told fabric.old)) (ties_of self.new.router (F.told fabric.new)) words words out.old.items out.new.items) }
+        ensures ready { OnOk result (IsReady self.new) }
+        ensures shape { self.new.router.shape ≡ self.old.router.shape }
+        ensures opened { F.opened fabric.new ≡ F.opened fabric.old }
+        ensures run { (cluster : Shape) (place : List ℕ) → KeepsRun (F.told fabric.old) (F.image fabric.old cluster place) (F.told fabric.new) (F.image fabric.new cluster place) }
+        ensures goes { OnOk result (F.goes fabric.old fabric.new) }
+        ensures falls { F.falls fabric.old fabric.new }
     {
         self.settled.push(Entry::Mark(HistoryMark::Wait(None)))?;
-        self.finish(alloc, out)?;
+        self.finish(alloc, fabric, out)?;
         Ok(())
     }
 
     /// Carries out a script line, and says whether the script goes on.
-    pub fn carry_out<U: Random>(
+    pub fn carry_out<U: Random, F: Fabric>(
         &mut self,
         alloc: Global,
         line: &[u8],
         random: &mut U,
-        replica: &mut PlainReplica,
+        fabric: &mut F,
         out: &mut Vec<u8>,
     ) -> Result<bool, Memory>
-        requires lines { self.old.lines < 2 ^ 32 - 1 }
+        requires lines { self.old.lines < 2 ^ 31 - 1 }
         requires tags { length self.old.tags ≤ self.old.lines }
-        requires ready { AllHoldBlobs replica.old }
-        ensures carried { OnOk result ((lines : List (List ℕ)) (state : State) (first : Option (ℕ → ℕ)) → Keeps self.old state → StandsAt lines state (plain_told replica.old) first (U.ahead random.old)
-            → state.lines ≡ length lines → HasGoneOn line.now lines state self.new (plain_told replica.new) first (U.ahead random.new) out.old.items out.new.items) }
+        requires ready { IsReady self.old }
+        requires open { F.opened fabric.old ≡ Some self.old.router.shape }
+        ensures carried { OnOk result ((lines : List (List ℕ)) (state : State) (first : Option (ℕ → ℕ)) → Keeps self.old state → StandsAt self.old.router.shape.partitions lines state (ties_of self.old.router (F.told fabric.old)) first (U.ahead random.old)
+            → state.lines ≡ length lines → HasGoneOn self.old.router.shape.partitions line.now lines state self.new (ties_of self.new.router (F.told fabric.new)) first (U.ahead random.new) out.old.items out.new.items) }
         ensures lines { OnOk result (self.new.lines ≡ self.old.lines + 1) }
         ensures tags { OnOk result (length self.new.tags ≤ self.new.lines) }
-        ensures ready { AllHoldBlobs replica.new }
+        ensures ready { OnOk result (IsReady self.new) }
+        ensures shape { self.new.router.shape ≡ self.old.router.shape }
+        ensures opened { F.opened fabric.new ≡ F.opened fabric.old }
+        ensures run { (cluster : Shape) (place : List ℕ) → KeepsRun (F.told fabric.old) (F.image fabric.old cluster place) (F.told fabric.new) (F.image fabric.new cluster place) }
+        ensures goes { OnOk result (F.goes fabric.old fabric.new) }
+        ensures falls { F.falls fabric.old fabric.new }
         ensures goes_on { IfOk result (λ more. MatchBool more (command_of self.old.tags line.now ≢ Some TheEnd) (command_of self.old.tags line.now ≡ Some TheEnd)) }
     {
         self.lines += 1;
         match read_line(alloc, line, &self.tags)? {
             None => self.refuse(out)?,
             Some(Command::Skip) => {}
-            Some(Command::Put { tag, body }) => self.put(alloc, tag, body, random, replica, out)?,
-            Some(Command::Get { tag, of }) => self.get(alloc, tag, of, replica, out)?,
-            Some(Command::Wait) => self.wait(alloc, out)?,
+            Some(Command::Put { tag, body }) => self.put(alloc, tag, body, random, fabric, out)?,
+            Some(Command::Get { tag, of }) => self.get(alloc, tag, of, fabric, out)?,
+            Some(Command::Wait) => self.wait(alloc, fabric, out)?,
             Some(Command::End) => return Ok(false),
         }
         Ok(true)
@@ -308,7 +382,9 @@ impl Session {
 
     /// The id that `$TAG` names: the one that its put was answered with.
     fn named(&self, name: &[u8]) -> Option<BlobId>
-        ensures { (state : State) → Keeps self.now state → result ≡ named_by state.tags (entries_of state) name.now }
+        requires ready { IsReady self.now }
+        ensures named { (state : State) → Keeps self.now state → result ≡ named_by state.tags (entries_of state) name.now }
+        ensures simple { IfSome result (λ id. is_composite id ≡ false) }
     {
         match self.tags.number_of(name) {
             Some(number) => answer_at(self.answers.as_slice(), number),
@@ -317,9 +393,22 @@ impl Session {
     }
 }
 
+/// A get of a whole blob.
+fn begun_get(alloc: Global, id: &Option<BlobId>) -> Begun
+    ensures { result ≡ get_of id.now }
+{
+    Begun::Get {
+        id: *id,
+        range: None,
+        file: Bytes::new(alloc),
+    }
+}
+
 /// The answer of an operation, numbered from 1.
 fn answer_at(answers: &[Option<BlobId>], number: u32) -> Option<BlobId>
-    ensures { result ≡ answer_at answers.now number }
+    requires simple { AllByRecursion IsSimpleAnswer answers.now }
+    ensures answer { result ≡ answer_at answers.now number }
+    ensures simple { IfSome result (λ id. is_composite id ≡ false) }
 {
     match answers.get((number as usize).saturating_sub(1)) {
         Some(answer) => *answer,
@@ -329,7 +418,10 @@ fn answer_at(answers: &[Option<BlobId>], number: u32) -> Option<BlobId>
 
 /// Sets the answer of an operation, where it has one.
 fn answer_with(answers: &mut Vec<Option<BlobId>>, number: u32, answer: Option<BlobId>)
-    ensures { answers.new.items ≡ answered answers.old.items number answer }
+    requires simple { AllByRecursion IsSimpleAnswer answers.old.items }
+    requires new { IsSimpleAnswer answer }
+    ensures set { answers.new.items ≡ answered answers.old.items number answer }
+    ensures simple { AllByRecursion IsSimpleAnswer answers.new.items }
 {
     if answer.is_some() {
         if let Some(place) = answers.get_mut((number as usize).saturating_sub(1)) {
@@ -345,37 +437,5 @@ fn answer_in(outcome: &Outcome) -> Option<BlobId>
     match outcome {
         Outcome::Put(id) => Some(*id),
         _ => None,
-    }
-}
-
-/// How a put ends after this reply.
-fn put_outcome(id: BlobId, reply: Reply) -> Outcome
-    ensures { result ≡ put_outcome id reply }
-{
-    match reply {
-        Reply::Stored | Reply::There => Outcome::Put(id),
-        _ => Outcome::Memory,
-    }
-}
-
-/// How a get of this id ends.
-fn get_id(id: &Option<BlobId>, replica: &mut PlainReplica) -> Outcome
-    requires ready { AllHoldBlobs replica.old }
-    ensures gets { GetsId id.now (plain_told replica.old) (plain_told replica.new) result }
-    ensures ready { AllHoldBlobs replica.new }
-{
-    match id {
-        Some(id) => get_outcome(replica.ask(Ask::Get { id: *id })),
-        None => Outcome::NoId,
-    }
-}
-
-/// How a get ends after this reply.
-fn get_outcome(reply: Reply) -> Outcome
-    ensures { result ≡ get_outcome reply }
-{
-    match reply {
-        Reply::Blob(blob) => Outcome::Bytes(blob.body),
-        _ => Outcome::Memory,
     }
 }

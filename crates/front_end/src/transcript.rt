@@ -3,13 +3,15 @@
 ghost use Rattle.std.specs.Prelude.{◌≡◌, ◌<◌, ◌++◌, ◌∷◌, [], length, take, codes, flat_map, slice_index, OnOk, OnErr};
 ghost use Rattle.std.specs.Fmt.{decimal};
 ghost use Rattle.hex.specs.Hex.{encode_lower, lower_digits};
-ghost use Rattle.front_end.specs.Transcript.{spelled_bytes, sized_bytes, outcome_words, entry_line, bad_line};
+ghost use Rattle.front_end.specs.Transcript.{spelled_bytes, sized_bytes, cause_word, failure_words, failures_words, properties_words, type_words, outcome_words, entry_line, bad_line};
 ghost use Rattle.front_end.specs.Pieces.{piece_text, BeginsWith};
 
-use crate::history::{Entry, HistoryMark, Outcome};
+use crate::history::Entry;
 use crate::tags::Tags;
 use blob_id::{BlobId, Memory};
 use itoa::Buffer;
+use quorum_op::{Cause, Failures, Outcome};
+use world_model::HistoryMark;
 
 /// A piece of a line.
 #[derive(Clone, Copy)]
@@ -21,6 +23,10 @@ enum Piece<'a> {
     Sized(&'a [u8]),
     /// The 40 digits of an id.
     Id(BlobId),
+    /// Nodes that failed, each with its cause and a space before it.
+    Failed(&'a Failures),
+    /// When a blob was made, its type, and its metadata bytes, each with a space before it.
+    Properties(u64, &'a [u8], &'a [u8]),
 }
 
 /// Adds the words that say how an operation ended. A refusal leaves `out` as it is.
@@ -28,8 +34,8 @@ pub fn write_outcome(out: &mut Vec<u8>, outcome: &Outcome) -> Result<(), Memory>
     ensures ok { OnOk result (out.new.items ≡ out.old.items ++ outcome_words outcome.now) }
     ensures err { OnErr result (out.new.items ≡ out.old.items) }
 {
-    let (text, more) = outcome_pieces(outcome);
-    write_pieces(out, &[Piece::Text(text), more])
+    let (text, more, last) = outcome_pieces(outcome);
+    write_pieces(out, &[Piece::Text(text), more, last])
 }
 
 /// Adds the line of an entry, and nothing for a wait. A refusal leaves `out` as it is.
@@ -44,7 +50,12 @@ pub fn write_entry(out: &mut Vec<u8>, tags: &Tags, entry: &Entry) -> Result<(), 
         Entry::Mark(HistoryMark::End(number, outcome)) => {
             write_end(out, tags.name_of(*number), outcome)
         }
-        Entry::Mark(HistoryMark::Wait(_)) => Ok(()),
+        Entry::Mark(
+            HistoryMark::Wait(_)
+            | HistoryMark::Cancel(_)
+            | HistoryMark::Level { .. }
+            | HistoryMark::Drain { .. },
+        ) => Ok(()),
         Entry::Bad(line) => write_bad(out, *line),
     }
 }
@@ -75,7 +86,7 @@ fn write_end<'a>(out: &mut Vec<u8>, tag: &'a [u8], outcome: &'a Outcome) -> Resu
     ensures ok { OnOk result (out.new.items ≡ out.old.items ++ (tag.now ++ codes " " ++ outcome_words outcome.now ++ 10 ∷ [])) }
     ensures err { OnErr result (out.new.items ≡ out.old.items) }
 {
-    let (text, more) = outcome_pieces(outcome);
+    let (text, more, last) = outcome_pieces(outcome);
     write_pieces(
         out,
         &[
@@ -83,6 +94,7 @@ fn write_end<'a>(out: &mut Vec<u8>, tag: &'a [u8], outcome: &'a Outcome) -> Resu
             Piece::Text(b" "),
             Piece::Text(text),
             more,
+            last,
             Piece::Text(b"\n"),
         ],
     )
@@ -104,15 +116,40 @@ fn write_bad(out: &mut Vec<u8>, line: u32) -> Result<(), Memory>
 
 /// The words of an outcome: a text, and what stands behind it.
 #[tactic(auto, unfolding(crate::specs::Transcript::outcome_words))]
-fn outcome_pieces(outcome: &Outcome) -> (&[u8], Piece<'_>)
-    ensures { result.0.now ++ piece_text result.1 ≡ outcome_words outcome.now }
+fn outcome_pieces(outcome: &Outcome) -> (&[u8], Piece<'_>, Piece<'_>)
+    ensures { result.0.now ++ (piece_text result.1 ++ piece_text result.2) ≡ outcome_words outcome.now }
 {
     match outcome {
-        Outcome::Put(id) => (b"ok ", Piece::Id(*id)),
-        Outcome::Bytes(bytes) => (b"ok ", Piece::Sized(bytes.as_slice())),
-        Outcome::NoId => (b"noid", Piece::Text(b"")),
-        Outcome::TooLarge(length) => (b"toolarge ", Piece::Number(*length)),
-        Outcome::Memory => (b"memory", Piece::Text(b"")),
+        Outcome::Put(id) => (b"ok ", Piece::Id(*id), Piece::Text(b"")),
+        Outcome::Deleted2 => (b"ok", Piece::Text(b""), Piece::Text(b"")),
+        Outcome::Bytes(bytes) => (b"ok ", Piece::Sized(bytes.as_slice()), Piece::Text(b"")),
+        Outcome::Info {
+            size,
+            created,
+            ctype,
+            meta,
+        } => (
+            b"ok ",
+            Piece::Number(*size),
+            Piece::Properties(*created, ctype.as_slice(), meta.as_slice()),
+        ),
+        Outcome::Deleted => (b"deleted", Piece::Text(b""), Piece::Text(b"")),
+        Outcome::NotFound => (b"notfound", Piece::Text(b""), Piece::Text(b"")),
+        Outcome::Unavailable { id, failed } => (
+            b"unavailable ",
+            Piece::Id(*id),
+            Piece::Failed(failed),
+        ),
+        Outcome::Cancelled => (b"cancelled", Piece::Text(b""), Piece::Text(b"")),
+        Outcome::TooLarge(length) => (b"toolarge ", Piece::Number(*length), Piece::Text(b"")),
+        Outcome::BadRange(length) => (b"badrange ", Piece::Number(*length), Piece::Text(b"")),
+        Outcome::NotWhole => (b"notwhole", Piece::Text(b""), Piece::Text(b"")),
+        Outcome::NoFile => (b"nofile", Piece::Text(b""), Piece::Text(b"")),
+        Outcome::NoId => (b"noid", Piece::Text(b""), Piece::Text(b"")),
+        Outcome::NoPartition => (b"nopartition", Piece::Text(b""), Piece::Text(b"")),
+        Outcome::Missing(id) => (b"missing ", Piece::Id(*id), Piece::Text(b"")),
+        Outcome::Corrupt(id) => (b"corrupt ", Piece::Id(*id), Piece::Text(b"")),
+        Outcome::Memory => (b"memory", Piece::Text(b""), Piece::Text(b"")),
     }
 }
 
@@ -154,6 +191,69 @@ fn add_piece(out: &mut Vec<u8>, piece: &Piece<'_>) -> Result<(), Memory>
             let bytes = id.bytes();
             add_digits(out, bytes.as_slice())
         }
+        Piece::Failed(failed) => add_failures(out, failed.as_slice()),
+        Piece::Properties(created, ctype, meta) => add_properties(out, *created, ctype, meta),
+    }
+}
+
+fn add_failures(out: &mut Vec<u8>, failed: &[(u32, Cause)]) -> Result<(), Memory>
+    ensures ok { OnOk result (out.new.items ≡ out.old.items ++ failures_words failed.now) }
+    ensures kept { BeginsWith out.old.items out.new.items }
+{
+    for (node, cause) in failed {
+        add_failure(out, *node, *cause)?;
+    }
+    Ok(())
+}
+
+fn add_failure(out: &mut Vec<u8>, node: u32, cause: Cause) -> Result<(), Memory>
+    ensures ok { OnOk result (out.new.items ≡ out.old.items ++ failure_words (node, cause)) }
+    ensures kept { BeginsWith out.old.items out.new.items }
+{
+    add(out, b" ")?;
+    add_number(out, u64::from(node))?;
+    add(out, b":")?;
+    add(out, cause_word(cause))
+}
+
+#[tactic(auto, unfolding(crate::specs::Transcript::cause_word))]
+fn cause_word(cause: Cause) -> &'static [u8]
+    ensures { result.now ≡ cause_word cause }
+{
+    match cause {
+        Cause::Timeout => b"timeout",
+        Cause::Patience => b"patience",
+        Cause::Broken => b"broken",
+        Cause::Full => b"full",
+        Cause::Clash => b"clash",
+        Cause::Gone => b"gone",
+        Cause::Fault => b"fault",
+        Cause::Down => b"down",
+        Cause::Memory => b"memory",
+        Cause::Stray => b"stray",
+        Cause::Cancelled => b"cancelled",
+    }
+}
+
+fn add_properties(out: &mut Vec<u8>, created: u64, ctype: &[u8], meta: &[u8]) -> Result<(), Memory>
+    ensures ok { OnOk result (out.new.items ≡ out.old.items ++ properties_words created ctype.now meta.now) }
+    ensures kept { BeginsWith out.old.items out.new.items }
+{
+    add(out, b" ")?;
+    add_number(out, created)?;
+    add(out, b" ")?;
+    add(out, type_words(ctype))?;
+    add(out, b" ")?;
+    add_spelled(out, meta)
+}
+
+/// A type, or `-` where there is none.
+fn type_words(ctype: &[u8]) -> &[u8]
+    ensures { result.now ≡ type_words ctype.now }
+{
+    match ctype {
+        [] => b"-",
+        _ => ctype,
     }
 }
 

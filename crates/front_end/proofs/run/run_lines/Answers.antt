@@ -1,85 +1,122 @@
-use Rattle.std.proofs.Common.{◌≡◌, ◌∙◌, ap, sym, arith, Err, refl, []}
-use Rattle.cell_model.specs.Plain.{plain_told}
+use Rattle.std.proofs.Common.{◌≡◌, ◌∙◌, ap, sym, arith, Err, refl}
+use Rattle.world_model.specs.declared.shape.Shape.{Shape}
 use Rattle.front_end.specs.declared.lines.Stop.TheVariants as stop
-use Rattle.front_end.proofs.RunLemmas.{known_error, consumes_nothing, stopped_between, cut_in_line, runs_on, ran_end, ran_last, ran_limit, read_now, read_line, read_all}
+use Rattle.front_end.specs.Running.{IsAll, IsSome}
+use Rattle.front_end.specs.Session.{ties_of}
+use Rattle.front_end.proofs.RunLemmas.{known_error, stopped_between, cut_in_line, runs_on, ran_end, ran_last, ran_limit, read_now, read_line, read_all}
+use Rattle.front_end.proofs.RunOnLemmas.{runs_over, still_runs}
 use Rattle.front_end.proofs.WriteLemmas.{appends_nothing}
 use Rattle.front_end.proofs.run.run_lines.Goals as goal
 
-pub returns-in_err-reader-clause-stopped : goal.returns-in_err-reader-clause-stopped
-returns-in_err-reader-clause-stopped g c = λ q. let e : stop.Source ≡ stop.Memory = known_error _ stop.Source stop.Memory c.from_residual.ensures q in absurd cc
-
-pub returns-in_err-reader-clause-cut : goal.returns-in_err-reader-clause-cut
-returns-in_err-reader-clause-cut g c = λ q. let e : stop.Sink ≡ stop.Memory = known_error _ stop.Sink stop.Memory c.from_residual.ensures q in absurd cc
-
-pub returns-in_err-reader-clause-refused : goal.returns-in_err-reader-clause-refused
-returns-in_err-reader-clause-refused g c = λ q. (
-  g.U.Random.ahead c.args.random.now,
-  stopped_between _ _ _ _ _ _ [] [] 0 c.args.session.now _ _ _ _ refl refl refl refl refl c.requires.fresh (consumes_nothing _) (omega arith) (appends_nothing _),
-)
-
 pub returns-in_err-line-clause-stopped : goal.returns-in_err-line-clause-stopped
 returns-in_err-line-clause-stopped g c = λ q.
+    let i = c.lines.invariant in
+    let P = c.args.session.now.router.shape.partitions in
     let gone = c.next_line.ensures.gone in
-    stopped_between _ _ _ _ _ _ _ gone.0 _ c.lines.session _ _ _ _ refl refl refl refl refl c.lines.invariant.running gone.1 gone.2 (appends_nothing _)
-
-pub returns-in_err-line-clause-cut : goal.returns-in_err-line-clause-cut
-returns-in_err-line-clause-cut g c = λ q. absurd (c.in_err-line.ensures.no_sink (sym (known_error _ stop.Sink c.in_err-line.field-0.0 c.from_residual-in_err-line.ensures q)))
+    let tie = ties_of c.lines.session.router (g.F.Fabric.told c.lines.fabric) in
+    record { router = c.lines.session.router; shaped = i.shape; went = i.goes; run = i.run; so = stopped_between P _ _ _ _ _ _ _ gone.0 _ c.lines.session tie _ _ _ refl refl refl refl refl i.running gone.1 gone.2 (appends_nothing _) }
 
 pub returns-in_err-line-clause-refused : goal.returns-in_err-line-clause-refused
 returns-in_err-line-clause-refused g c = λ q.
+    let i = c.lines.invariant in
+    let P = c.args.session.now.router.shape.partitions in
     let gone = c.next_line.ensures.gone in
-    (g.U.Random.ahead c.lines.random, stopped_between _ _ _ _ _ _ _ gone.0 _ c.lines.session _ _ _ _ refl refl refl refl refl c.lines.invariant.running gone.1 gone.2 (appends_nothing _))
-
-pub returns-in_err-more-in-Line-clause-stopped : goal.returns-in_err-more-in-Line-clause-stopped
-returns-in_err-more-in-Line-clause-stopped g c = λ q. absurd (c.in_err-more-in-Line.ensures.source (sym (known_error _ stop.Source c.in_err-more-in-Line.field-0.0 c.from_residual-in_err-more-in-Line.ensures q)))
+    let tie = ties_of c.lines.session.router (g.F.Fabric.told c.lines.fabric) in
+    (g.U.Random.ahead c.lines.random, record { between = c.lines.fabric; was = record { router = c.lines.session.router; shaped = i.shape; went = i.goes; run = i.run; so = stopped_between P _ _ _ _ _ _ _ gone.0 _ c.lines.session tie _ _ _ refl refl refl refl refl i.running gone.1 gone.2 (appends_nothing _) }; fell = g.met.F.Fabric.falls_as_it_goes _ _ (g.met.F.Fabric.goes_nowhere _) })
 
 pub returns-in_err-more-in-Line-clause-cut : goal.returns-in_err-more-in-Line-clause-cut
 returns-in_err-more-in-Line-clause-cut g c = λ q.
-    let r = c.lines.invariant.running in
+    let i = c.lines.invariant in
+    let r = i.running in
+    let P = c.args.session.now.router.shape.partitions in
     let e = sym (known_error _ stop.Sink c.in_err-more-in-Line.field-0.0 c.from_residual-in_err-more-in-Line.ensures q) in
-    let ran = c.in_err-more-in-Line.ensures.cut (ap Err e) r.lines r.state (g.U.Random.ahead c.args.random.now) r.keeps r.stands r.counted in
+    let parts : c.lines.session.router.shape.partitions ≡ P = ap (λ (s : Shape). s.partitions) i.shape in
+    let tie = ties_of c.lines.session.router (g.F.Fabric.told c.lines.fabric) in
+    let tie' = ties_of c.run_line.new.session.router (g.F.Fabric.told c.run_line.new.fabric) in
+    let runs = runs_over _ P _ c.lines.session c.run_line.new.session tie tie' _ _ _ _ IsSome parts (c.in_err-more-in-Line.ensures.cut (ap Err e)) in
+    let ran = runs r.lines r.state (g.U.Random.ahead c.args.random.now) r.keeps r.stands r.counted in
     let next = rw c.in-Line.is at c.in_ok-line.ensures.next in
     let small = rw c.in-Line.is at c.in_ok-line.ensures.limit in
     let read = read_now _ _ _ _ _ (read_line _ _ _ _ c.next_line.new.self.waiting _ _ r.lines c.as_slice.result.now r.read (next.0, next.1, c.as_slice.ensures ∙ next.2, next.3) c.in_ok-line.ensures.read) (omega (arith, small)) in
-    cut_in_line _ _ _ _ _ r.lines c.as_slice.result.now r.state c.run_line.new.session (plain_told c.run_line.new.replica) _ _ _ refl refl refl refl refl refl r.unended r.wrote read ran
+    record {
+      router = c.run_line.new.session.router;
+      shaped = c.in_err-more-in-Line.ensures.shape ∙ i.shape;
+      went = g.met.F.Fabric.goes_on _ _ _ i.goes (c.in_err-more-in-Line.ensures.cut_goes (ap Err e));
+      run = still_runs (record { told = g.F.Fabric.told; image = g.F.Fabric.image; goes = g.F.Fabric.goes; falls = g.F.Fabric.falls }) c.args.fabric.now c.lines.fabric c.run_line.new.fabric i.run c.in_err-more-in-Line.ensures.run;
+      so = cut_in_line P _ _ _ _ _ r.lines c.as_slice.result.now r.state c.run_line.new.session tie' _ _ _ refl refl refl refl refl refl r.unended r.wrote read ran;
+    }
 
 pub returns-in_err-more-in-Line-clause-refused : goal.returns-in_err-more-in-Line-clause-refused
 returns-in_err-more-in-Line-clause-refused g c = λ q.
+    let i = c.lines.invariant in
+    let P = c.args.session.now.router.shape.partitions in
     let gone = c.next_line.ensures.gone in
+    let tie = ties_of c.lines.session.router (g.F.Fabric.told c.lines.fabric) in
     let e = sym (known_error _ stop.Memory c.in_err-more-in-Line.field-0.0 c.from_residual-in_err-more-in-Line.ensures q) in
-    (g.U.Random.ahead c.lines.random, stopped_between _ _ _ _ _ _ _ gone.0 _ c.lines.session _ _ _ _ refl refl refl refl refl c.lines.invariant.running gone.1 gone.2 (c.in_err-more-in-Line.ensures.memory (ap Err e)))
-
-pub returns-in_err-run_line-in-Last-clause-stopped : goal.returns-in_err-run_line-in-Last-clause-stopped
-returns-in_err-run_line-in-Last-clause-stopped g c = λ q. absurd (c.in_err-run_line-in-Last.ensures.source (sym (known_error _ stop.Source c.in_err-run_line-in-Last.field-0.0 c.from_residual-in_err-run_line-in-Last.ensures q)))
+    (g.U.Random.ahead c.lines.random, record { between = c.lines.fabric; was = record { router = c.lines.session.router; shaped = i.shape; went = i.goes; run = i.run; so = stopped_between P _ _ _ _ _ _ _ gone.0 _ c.lines.session tie _ _ _ refl refl refl refl refl i.running gone.1 gone.2 (c.in_err-more-in-Line.ensures.memory (ap Err e)) }; fell = c.in_err-more-in-Line.ensures.falls })
 
 pub returns-in_err-run_line-in-Last-clause-cut : goal.returns-in_err-run_line-in-Last-clause-cut
 returns-in_err-run_line-in-Last-clause-cut g c = λ q.
-    let r = c.lines.invariant.running in
+    let i = c.lines.invariant in
+    let r = i.running in
+    let P = c.args.session.now.router.shape.partitions in
     let e = sym (known_error _ stop.Sink c.in_err-run_line-in-Last.field-0.0 c.from_residual-in_err-run_line-in-Last.ensures q) in
-    let ran = c.in_err-run_line-in-Last.ensures.cut (ap Err e) r.lines r.state (g.U.Random.ahead c.args.random.now) r.keeps r.stands r.counted in
+    let parts : c.lines.session.router.shape.partitions ≡ P = ap (λ (s : Shape). s.partitions) i.shape in
+    let tie = ties_of c.lines.session.router (g.F.Fabric.told c.lines.fabric) in
+    let tie' = ties_of c.run_line-in-Last.new.session.router (g.F.Fabric.told c.run_line-in-Last.new.fabric) in
+    let runs = runs_over _ P _ c.lines.session c.run_line-in-Last.new.session tie tie' _ _ _ _ IsSome parts (c.in_err-run_line-in-Last.ensures.cut (ap Err e)) in
+    let ran = runs r.lines r.state (g.U.Random.ahead c.args.random.now) r.keeps r.stands r.counted in
     let next = rw (c.in-Last.is, sym c.as_slice-in-Last.ensures) at c.in_ok-line.ensures.next in
     let small = rw c.in-Last.is at c.in_ok-line.ensures.limit in
     let read = read_all _ _ _ _ c.next_line.new.self.waiting _ _ r.lines c.as_slice-in-Last.result.now r.read next c.in_ok-line.ensures.read (omega (arith, small)) in
-    cut_in_line _ _ _ _ _ r.lines c.as_slice-in-Last.result.now r.state c.run_line-in-Last.new.session (plain_told c.run_line-in-Last.new.replica) _ _ _ refl refl refl refl refl refl r.unended r.wrote read ran
+    record {
+      router = c.run_line-in-Last.new.session.router;
+      shaped = c.in_err-run_line-in-Last.ensures.shape ∙ i.shape;
+      went = g.met.F.Fabric.goes_on _ _ _ i.goes (c.in_err-run_line-in-Last.ensures.cut_goes (ap Err e));
+      run = still_runs (record { told = g.F.Fabric.told; image = g.F.Fabric.image; goes = g.F.Fabric.goes; falls = g.F.Fabric.falls }) c.args.fabric.now c.lines.fabric c.run_line-in-Last.new.fabric i.run c.in_err-run_line-in-Last.ensures.run;
+      so = cut_in_line P _ _ _ _ _ r.lines c.as_slice-in-Last.result.now r.state c.run_line-in-Last.new.session tie' _ _ _ refl refl refl refl refl refl r.unended r.wrote read ran;
+    }
 
 pub returns-in_err-run_line-in-Last-clause-refused : goal.returns-in_err-run_line-in-Last-clause-refused
 returns-in_err-run_line-in-Last-clause-refused g c = λ q.
+    let i = c.lines.invariant in
+    let P = c.args.session.now.router.shape.partitions in
     let gone = c.next_line.ensures.gone in
+    let tie = ties_of c.lines.session.router (g.F.Fabric.told c.lines.fabric) in
     let e = sym (known_error _ stop.Memory c.in_err-run_line-in-Last.field-0.0 c.from_residual-in_err-run_line-in-Last.ensures q) in
-    (g.U.Random.ahead c.lines.random, stopped_between _ _ _ _ _ _ _ gone.0 _ c.lines.session _ _ _ _ refl refl refl refl refl c.lines.invariant.running gone.1 gone.2 (c.in_err-run_line-in-Last.ensures.memory (ap Err e)))
+    (g.U.Random.ahead c.lines.random, record { between = c.lines.fabric; was = record { router = c.lines.session.router; shaped = i.shape; went = i.goes; run = i.run; so = stopped_between P _ _ _ _ _ _ _ gone.0 _ c.lines.session tie _ _ _ refl refl refl refl refl i.running gone.1 gone.2 (c.in_err-run_line-in-Last.ensures.memory (ap Err e)) }; fell = c.in_err-run_line-in-Last.ensures.falls })
+
+pub returns-in_err-more-in-Line-clause-falls : goal.returns-in_err-more-in-Line-clause-falls
+returns-in_err-more-in-Line-clause-falls g c = g.met.F.Fabric.falls_on _ _ _ (g.met.F.Fabric.falls_as_it_goes _ _ c.lines.invariant.goes) c.in_err-more-in-Line.ensures.falls
 
 pub returns-then-not-more-clause-ran : goal.returns-then-not-more-clause-ran
 returns-then-not-more-clause-ran g c =
     let r = c.lines.invariant.running in
+    let P = c.args.session.now.router.shape.partitions in
+    let parts : c.lines.session.router.shape.partitions ≡ P = ap (λ (s : Shape). s.partitions) c.lines.invariant.shape in
+    let tie = ties_of c.lines.session.router (g.F.Fabric.told c.lines.fabric) in
+    let tie' = ties_of c.run_line.new.session.router (g.F.Fabric.told c.run_line.new.fabric) in
+    let runs = runs_over _ P _ c.lines.session c.run_line.new.session tie tie' _ _ _ _ IsAll parts c.in_ok-more-in-Line.ensures.carried in
     let next = rw c.in-Line.is at c.in_ok-line.ensures.next in
     let small = rw c.in-Line.is at c.in_ok-line.ensures.limit in
     let ends = rw c.if-not-more.true at c.in_ok-more-in-Line.ensures.goes_on in
-    ran_end _ _ _ _ _ _ _ c.next_line.new.self.waiting _ _ c.as_slice.result.now c.lines.session c.run_line.new.session _ (plain_told c.run_line.new.replica) _ _ _ r
-    (next.0, next.1, c.as_slice.ensures ∙ next.2, next.3) c.in_ok-line.ensures.read small c.in_ok-more-in-Line.ensures.carried ends
+    ran_end P _ _ _ _ _ _ _ c.next_line.new.self.waiting _ _ c.as_slice.result.now c.lines.session c.run_line.new.session tie tie' _ _ _ r
+    (next.0, next.1, c.as_slice.ensures ∙ next.2, next.3) c.in_ok-line.ensures.read small runs ends
+
+pub returns-then-not-more-clause-goes : goal.returns-then-not-more-clause-goes
+returns-then-not-more-clause-goes g c = g.met.F.Fabric.goes_on _ _ _ c.lines.invariant.goes c.in_ok-more-in-Line.ensures.goes
+
+pub returns-then-not-more-clause-falls : goal.returns-then-not-more-clause-falls
+returns-then-not-more-clause-falls g c = g.met.F.Fabric.falls_as_it_goes _ _ (g.met.F.Fabric.goes_on _ _ _ c.lines.invariant.goes c.in_ok-more-in-Line.ensures.goes)
 
 pub lines-preserved : goal.lines-preserved
 lines-preserved g c =
     let i = c.lines.invariant in
+    let P = c.args.session.now.router.shape.partitions in
+    let parts : c.lines.session.router.shape.partitions ≡ P = ap (λ (s : Shape). s.partitions) c.lines.invariant.shape in
+    let tie = ties_of c.lines.session.router (g.F.Fabric.told c.lines.fabric) in
+    let tie' = ties_of c.run_line.new.session.router (g.F.Fabric.told c.run_line.new.fabric) in
+    let runs = runs_over _ P _ c.lines.session c.run_line.new.session tie tie' _ _ _ _ IsAll parts c.in_ok-more-in-Line.ensures.carried in
     let next = rw c.in-Line.is at c.in_ok-line.ensures.next in
     let used = rw c.in-Line.is at c.in_ok-line.ensures.budget in
     let small = rw c.in-Line.is at c.in_ok-line.ensures.limit in
@@ -87,8 +124,12 @@ lines-preserved g c =
     let l = c.in_ok-line.ensures in
     let more = rw c.if-not-more.false at e.goes_on in
     record {
-      running = runs_on _ _ _ _ _ _ _ c.next_line.new.self.waiting _ _ c.as_slice.result.now c.lines.session c.run_line.new.session _ (plain_told c.run_line.new.replica) _ _ _ i.running
-          (next.0, next.1, c.as_slice.ensures ∙ next.2, next.3) l.read e.carried e.lines more;
+      running = runs_on P _ _ _ _ _ _ _ c.next_line.new.self.waiting _ _ c.as_slice.result.now c.lines.session c.run_line.new.session tie tie' _ _ _ i.running
+          (next.0, next.1, c.as_slice.ensures ∙ next.2, next.3) l.read runs e.lines more;
+      shape = e.shape ∙ i.shape;
+      opened = e.opened ∙ i.opened;
+      run = still_runs (record { told = g.F.Fabric.told; image = g.F.Fabric.image; goes = g.F.Fabric.goes; falls = g.F.Fabric.falls }) c.args.fabric.now c.lines.fabric c.run_line.new.fabric i.run e.run;
+      goes = g.met.F.Fabric.goes_on _ _ _ i.goes e.goes;
       turns = omega (arith, i.turns, used, e.lines);
       limit = small;
       tags = e.tags;
@@ -100,12 +141,17 @@ lines-preserved g c =
 pub returns-in-Last-clause-ran : goal.returns-in-Last-clause-ran
 returns-in-Last-clause-ran g c =
     let r = c.lines.invariant.running in
+    let P = c.args.session.now.router.shape.partitions in
+    let parts : c.lines.session.router.shape.partitions ≡ P = ap (λ (s : Shape). s.partitions) c.lines.invariant.shape in
+    let tie = ties_of c.lines.session.router (g.F.Fabric.told c.lines.fabric) in
+    let tie' = ties_of c.run_line-in-Last.new.session.router (g.F.Fabric.told c.run_line-in-Last.new.fabric) in
+    let runs = runs_over _ P _ c.lines.session c.run_line-in-Last.new.session tie tie' _ _ _ _ IsAll parts c.in_ok-run_line-in-Last.ensures.carried in
     let next = rw (c.in-Last.is, sym c.as_slice-in-Last.ensures) at c.in_ok-line.ensures.next in
     let small = rw c.in-Last.is at c.in_ok-line.ensures.limit in
-    ran_last _ _ _ _ _ _ _ c.next_line.new.self.waiting _ _ c.as_slice-in-Last.result.now c.lines.session c.run_line-in-Last.new.session _ (plain_told c.run_line-in-Last.new.replica) _ _ _ r
-    next c.in_ok-line.ensures.read small c.in_ok-run_line-in-Last.ensures.carried
+    ran_last P _ _ _ _ _ _ _ c.next_line.new.self.waiting _ _ c.as_slice-in-Last.result.now c.lines.session c.run_line-in-Last.new.session tie tie' _ _ _ r
+    next c.in_ok-line.ensures.read small runs
 
 pub returns-in-Limit-clause-ran : goal.returns-in-Limit-clause-ran
 returns-in-Limit-clause-ran g c =
     let next = rw c.in-Limit.is at c.in_ok-line.ensures.next in
-    ran_limit _ _ _ _ _ _ c.next_line.new.self.waiting _ _ c.lines.session _ _ _ c.lines.invariant.running next c.in_ok-line.ensures.read (rw c.in-Limit.is at c.in_ok-line.ensures.limit)
+    ran_limit _ _ _ _ _ _ _ c.next_line.new.self.waiting _ _ c.lines.session _ _ _ c.lines.invariant.running next c.in_ok-line.ensures.read (rw c.in-Limit.is at c.in_ok-line.ensures.limit)

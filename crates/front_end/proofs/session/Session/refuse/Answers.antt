@@ -1,4 +1,5 @@
 use Rattle.std.proofs.Common.{◌∙◌, ◌++◌, ◌∷◌, [], ℕ, ap, refl, length}
+use Rattle.router_core.specs.Stands.{is_idle}
 use Rattle.front_end.specs.declared.history.Entry.TheVariants.{Bad}
 use Rattle.front_end.specs.Session.{answer_at}
 use Rattle.front_end.proofs.KeepLemmas.{settled_outline, answers_own}
@@ -10,12 +11,12 @@ returns-clause-state c = λ state k.
     let e = c.in_ok-settle.ensures in
     record {
       tags = e.tags ∙ k.tags;
-      live = e.live ∙ k.live;
+      busy = ap (λ r. is_idle r.stage) e.router ∙ k.busy;
+      some = k.some;
       lines = e.lines ∙ k.lines;
       bad = e.bad;
       settled = e.settled ∙ ap (λ (n : ℕ). (self.settled ++ self.later) ++ Bad n ∷ []) k.lines ∙ settled_outline state.settled state.later self.settled self.later (Bad state.lines) k.settled k.later;
       later = e.later;
-      within = k.within;
       count = ap (λ a. length a.items) e.answers ∙ k.count;
       answers = λ n pos. ap (λ a. answer_at a.items n) e.answers ∙ k.answers n pos ∙ answers_own state (Bad state.lines) n refl;
     }

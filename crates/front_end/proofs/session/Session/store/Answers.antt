@@ -1,7 +1,11 @@
-use Rattle.std.proofs.Common.{◌∙◌, ◌++◌, ◌∷◌, [], List, ap, sym, refl}
+use Rattle.std.proofs.Common.{◌≡◌, ◌∙◌, ◌++◌, ◌∷◌, [], ◌+◌, ◌-◌, ◌%◌, List, ℕ, ap, sym, subst, refl, length, arith}
+use Rattle.blob_id.specs.Id.{drawn_id}
+use Rattle.blob_id.specs.declared.id.Kind.TheVariants.{Simple}
+use Rattle.world_model.specs.declared.history.HistoryMark.TheVariants.{Begin, Drew}
 use Rattle.front_end.specs.declared.history.Entry.{Entry}
 use Rattle.front_end.specs.declared.history.Entry.TheVariants.{Mark}
-use Rattle.front_end.specs.declared.history.HistoryMark.TheVariants.{Drew}
+use Rattle.front_end.specs.Transcript.{entry_line}
+use Rattle.front_end.specs.Session.{put_of, ties_of}
 use Rattle.front_end.proofs.KeepLemmas.{outline_more, answers_later}
 use Rattle.front_end.proofs.session.Session.store.Goals as goal
 
@@ -9,25 +13,26 @@ pub returns-clause-stored : goal.returns-clause-stored
 returns-clause-stored g c =
     let self = c.args.self.now in
     let id = c.draw-id.result in
-    let e = Mark (Drew c.args.number id) in
+    let n = length self.tags in
+    let e = Mark (Drew n id) in
+    let before = g.F.Fabric.told c.args.fabric.now in
+    let now = g.F.Fabric.told c.put.new.fabric in
+    let counted : self.router.begun + 1 ≡ n = c.requires.begun in
+    let turn : c.partition.result ≡ (n - 1) % self.router.shape.partitions = c.partition.ensures.value ∙ ap (λ m. m % self.router.shape.partitions) (omega (arith, counted)) in
     record {
       id = id;
-      reply = c.ask.result;
-      blob = record { created = 0; ctype = c.new.result; meta = c.new-2.result; body = c.args.body };
-      same = refl;
-      step = c.ask.ensures.step tt;
-      draws = (c.word-high.result, c.word-low.result, (_, c.word-high.ensures.given, c.word-low.ensures.given), c.draw-id.ensures);
+      draws = (c.word-high.result, c.word-low.result, (_, c.word-high.ensures.given, c.word-low.ensures.given), c.draw-id.ensures ∙ ap (λ p. drawn_id Simple p c.word-high.result c.word-low.result) turn);
       drew = λ state k. record {
         tags = k.tags;
-        live = k.live;
+        busy = c.in_ok-put.ensures.busy;
+        some = λ b. omega (arith, counted, ap length k.tags);
         lines = k.lines;
         bad = k.bad;
         settled = k.settled;
-        later = c.in_ok-push.ensures.ok ∙ ap (λ (t : List Entry). t ++ e ∷ []) k.later ∙ sym (outline_more state.later e);
-        within = k.within;
+        later = c.in_ok-push.ensures.ok ∙ ap (λ (m : ℕ). self.later ++ Mark (Drew m id) ∷ []) c.len.ensures ∙ ap (λ (t : List Entry). t ++ e ∷ []) k.later ∙ sym (outline_more state.later e);
         count = k.count;
-        answers = λ n pos. k.answers n pos ∙ answers_later state e n refl;
+        answers = λ m pos. k.answers m pos ∙ answers_later state e m refl;
       };
-      told = c.in_ok-write_entry.ensures.ok;
-      ends = c.put_outcome.ensures;
+      ties = λ marks t. subst (λ (m : ℕ). ties_of c.put.new.self now (Drew m id ∷ Begin m (put_of c.args.body) ∷ marks)) counted (c.in_ok-put.ensures.ties marks t);
+      told = c.in_ok-write_entry.ensures.ok ∙ ap (λ (m : ℕ). c.args.out.now.items ++ entry_line self.tags (Mark (Drew m id))) c.len.ensures;
     }

@@ -1,0 +1,79 @@
+-- The record behind a run.
+use Rattle.std.proofs.Common.{◌≡◌, ℕ, List, Option, refl, subst}
+use Rattle.mem_fabric.specs.Network.{nothing_held}
+use Rattle.mem_fabric.specs.Played.{IsPlayed}
+use Rattle.router_core.specs.Fits.{RouterView}
+use Rattle.router_core.specs.Stages.{simple_rules}
+use Rattle.router_core.specs.Stands.{OwnsStage, Stands}
+use Rattle.router_core.specs.Ties.{IsWoven}
+use Rattle.router_core.specs.declared.router.Stage.{Stage}
+use Rattle.world_model.specs.declared.history.HistoryMark.{HistoryMark}
+use Rattle.world_model.specs.declared.moves.Move.{Move}
+use Rattle.world_model.specs.declared.shape.Shape.{Shape}
+use Rattle.world_model.specs.declared.step.Called.{Called}
+use Rattle.world_model.specs.Lists.{Each}
+use Rattle.world_model.specs.Record.{Record}
+use Rattle.world_model.specs.Router.{IsKept}
+use Rattle.world_model.specs.Rules.{Rules}
+use Rattle.world_model.specs.Safe.{DrawsFresh, DrawsNew, IsSound, Safe}
+use Rattle.world_model.specs.Told.{told, weave}
+use Rattle.world_model.specs.World.{Cells, Run}
+use Rattle.world_model.proofs.ToldLaws.{woven_runs}
+use Rattle.front_end.specs.Run.{HasFinished, HasStopped, WasCutOff, IsRecorded, Outside}
+use Rattle.front_end.proofs.TimelyLemmas.{open_in_time}
+
+-- what a router keeps at any stage is of a record over which it kept its rules
+stage_kept : (shape : Shape) (r : Record) (stage : Stage) → OwnsStage shape r stage → IsKept (simple_rules shape) r
+stage_kept shape r Stage.Idle owns = owns.going.kept
+stage_kept shape r (Stage.UnderWay live) owns = owns.under_way.going.kept
+stage_kept shape r (Stage.Over operation outcome) owns = owns.going.kept
+
+-- replicas that hold nothing are sound, and name no id
+nothing_sound : IsSound nothing_held
+nothing_sound n p m q id b c held other = absurd cc
+
+nothing_new : (r : Record) → Each DrawsFresh r → DrawsNew nothing_held r
+nothing_new r fresh = record { once = fresh; cells = λ id drawn n p. refl; listed = λ id drawn n p top held is. absurd cc }
+
+abbrev pub RunsAreSafe : Type 0
+RunsAreSafe = (rules : Rules) (opening : Cells) (record' : Record) → IsSound opening → DrawsNew opening record' → Run opening record' → IsKept rules record' → Safe rules opening record'
+
+pub recorded : (shape : Shape) (router : RouterView) (moves : List Move) (calls : List Called) (marks : List HistoryMark) → RunsAreSafe → router.shape ≡ shape → IsPlayed shape moves calls → Run nothing_held (told calls)
+    → IsWoven (Stands router) calls marks → IsRecorded shape moves marks
+recorded shape router moves calls marks safe same played run w =
+    let r = weave w.placed calls in
+    let ran : Run nothing_held r = woven_runs nothing_held w.placed calls w.stands.only run in
+    let kept : IsKept (simple_rules shape) r = subst (λ (s : Shape). IsKept (simple_rules s) r) same (stage_kept router.shape r router.stage w.so.owns.stage) in
+    record {
+      calls = calls;
+      played = played;
+      record' = r;
+      woven = record { placed = w.placed; stands = w.stands; same = w.same; so = refl };
+      run = ran;
+      kept = kept;
+      safe = λ fresh. safe (simple_rules shape) nothing_held r nothing_sound (nothing_new r fresh) ran kept;
+      in_time = open_in_time shape r;
+    }
+
+-- a tie seen otherwise
+pub finished_map : (P : ℕ) (tie tie' : List HistoryMark → Type 0) (status : ℕ) (o : Outside) → ((marks : List HistoryMark) → tie marks → tie' marks) → HasFinished P tie status o → HasFinished P tie' status o
+finished_map P tie tie' status o f h = record {
+  lines = h.lines;
+  entries = h.entries;
+  ending = h.ending;
+  past = h.past;
+  ended_last = h.ended_last;
+  all_ended = h.all_ended;
+  status_is = h.status_is;
+  read = h.read;
+  wrote = h.wrote;
+  draws = h.draws;
+  tied = f _ h.tied;
+}
+
+pub stopped_map : (P : ℕ) (tie tie' : List HistoryMark → Type 0) (o : Outside) (words : Option (ℕ → ℕ)) → ((marks : List HistoryMark) → tie marks → tie' marks) → HasStopped P tie o words → HasStopped P tie' o words
+stopped_map P tie tie' o words f h =
+    record { lines = h.lines; entries = h.entries; past = h.past; ended_last = h.ended_last; read = h.read; wrote = h.wrote; draws = h.draws; tied = f _ h.tied }
+
+pub cut_map : (P : ℕ) (tie tie' : List HistoryMark → Type 0) (o : Outside) → ((marks : List HistoryMark) → tie marks → tie' marks) → WasCutOff P tie o → WasCutOff P tie' o
+cut_map P tie tie' o f h = record { lines = h.lines; entries = h.entries; past = h.past; ended_last = h.ended_last; read = h.read; wrote = h.wrote; draws = h.draws; tied = f _ h.tied }
