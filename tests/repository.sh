@@ -1,25 +1,61 @@
 #!/usr/bin/env bash
-# The repository's own checks, behind the gate: each example gives the transcript and the status that stand beside it.
-# The programs are run here without their proofs, which the gate has just made.
+# The repository's own checks, behind the gate. Each example gives the transcript and the status that stand beside it, under the words that stand
+# beside it, or else over one node. A long script over three replicas ends well under each of fifty schedules, twice with the same transcript.
+# The program is run here without its proofs, which the gate has just made.
 set -u
 cd "$(dirname "$0")/.." || exit 1
-passed=0
+work=$(mktemp -d) || exit 1
+trap 'rm -rf "$work"' EXIT
+mkdir "$work/examples" "$work/seeds"
 failed=0
+
+# Runs the program over each script of a folder. A line for each run comes on standard error, and the transcripts that have none beside them on
+# standard output.
+run_all() {
+  (cd crates/ambry_lab && rt try --cases "$1")
+}
+
+# What `cat` finds in a file, or else these words.
+file_or() {
+  if [ -f "$1" ]; then cat "$1"; else echo "$2"; fi
+}
+
 for script in examples/*.script; do
   base=${script%.script}
-  wanted=0
-  [ -f "$base.status" ] && wanted=$(cat "$base.status")
-  ./ambry_lab --unproved run --nodes 1 < "$script" > /tmp/ambry-example.$$ 2> /tmp/ambry-example-err.$$
-  status=$?
-  if [ "$status" = "$wanted" ] && cmp -s "$base.transcript" /tmp/ambry-example.$$; then
-    passed=$((passed + 1))
-  else
+  case=$work/examples/$(basename "$base")
+  cp "$script" "$case"
+  cp "$base.transcript" "$case.stdout"
+  file_or "$base.words" "run --nodes 1" | tr ' ' '\n' > "$case.args"
+done
+run_all "$work/examples" 2> "$work/log"
+for script in examples/*.script; do
+  base=${script%.script}
+  status=$(file_or "$base.status" 0)
+  if ! grep -q "^case=$(basename "$base") run=ended status=$status .*output=expected" "$work/log"; then
     failed=$((failed + 1))
-    echo "$script: status $status (wanted $wanted)"
-    diff "$base.transcript" /tmp/ambry-example.$$
-    tail -n 5 /tmp/ambry-example-err.$$
+    echo "$script: not the transcript or the status $status beside it"
   fi
 done
-rm -f /tmp/ambry-example.$$ /tmp/ambry-example-err.$$
-echo "examples: $passed as they stand, $failed not"
+[ "$failed" = 0 ] || cat "$work/log"
+echo "examples: $(ls examples/*.script | wc -l), and $failed not as they stand"
+
+for n in $(seq 1 20); do
+  printf 'put a%d hex %04x\nwait\nget b%d $a%d\n' "$n" "$n" "$n" "$n"
+  printf 'b%d ok 2 %04x\n' "$n" "$n" >> "$work/right"
+done > "$work/script"
+for seed in $(seq 1 50); do
+  cp "$work/script" "$work/seeds/seed_$seed"
+  printf 'run\n--seed\n%d\n' "$seed" > "$work/seeds/seed_$seed.args"
+done
+run_all "$work/seeds" > "$work/once" 2> "$work/log"
+run_all "$work/seeds" > "$work/again" 2> /dev/null
+ended=$(grep -c '^case=seed_.* run=ended status=0 ' "$work/log")
+wrong=$(grep '^b[0-9]* ok' "$work/once" | grep -c -v -x -F -f "$work/right")
+echo "schedules: 50, of which $ended ended well, with $wrong wrong gets"
+[ "$ended" = 50 ] || failed=$((failed + 1))
+[ "$wrong" = 0 ] || failed=$((failed + 1))
+if ! cmp "$work/once" "$work/again"; then
+  failed=$((failed + 1))
+  echo "schedules: the same seed gave two transcripts"
+fi
 [ "$failed" = 0 ]
