@@ -36,6 +36,7 @@ fn three_nodes() -> Shape
 #[derive(Drop)]
 struct Echo {
     alloc: Global,
+    fresh: bool,
     opened: Option<Shape>,
     held: Bytes,
     events: Vec<Event>,
@@ -80,12 +81,12 @@ fn reply_frame(alloc: Global, request: &[u8], body: &[u8]) -> Result<Bytes, Memo
 }
 
 impl Fabric for Echo {
-    ghost use Rattle.std.specs.Prelude.{None, false};
-    ghost use Rattle.std.proofs.lemmas.Bool.{false≢true};
+    ghost use Rattle.std.specs.Prelude.{None};
+    ghost use Rattle.std.proofs.lemmas.Option.{none-some};
 
     ghost faults = { λ f. 0 };
 
-    ghost fresh = { λ f. false };
+    ghost fresh = { λ f. f.fresh };
 
     ghost opened = { λ f. f.opened };
 
@@ -98,6 +99,7 @@ impl Fabric for Echo {
     ghost falls = { λ f g. Unit {0} };
 
     fn open(&mut self, shape: &Shape, _: &str) -> Result<(), StartFault> {
+        self.fresh = false;
         self.opened = Some(*shape);
         Ok(())
     }
@@ -125,7 +127,7 @@ impl Fabric for Echo {
         self.opened = None;
     }
 
-    ghost fresh_did_nothing = { λ a calls f t. absurd (false≢true f) };
+    ghost fresh_did_nothing = { λ a calls f t. absurd (none-some calls t) };
 
     ghost goes_nowhere = { λ a. tt };
 
@@ -147,6 +149,7 @@ fn opened(alloc: Global, shape: Shape) -> Result<Echo, Fail>
 {
     Ok(Echo {
         alloc,
+        fresh: false,
         opened: Some(shape),
         held: Bytes::copy_of(alloc, &HELD)?,
         events: Vec::new(alloc),
