@@ -1,21 +1,20 @@
 -- What a cluster does by a move, as a network.
-use Rattle.std.proofs.Common.{◌≡◌, ℕ, ◌<◌, ◌≤◌, ◌==◌, arith, Bool, true, false, cond, List, [], ◌∷◌, length, map, Option, Some, None, Result, Ok, Err, slice_get, slice_index, slice_index_or, refl, sym, ap, ◌∙◌, subst}
+use Rattle.std.proofs.Common.{◌≡◌, ℕ, ◌<◌, Bool, true, false, cond, length, Option, Some, None, Result, Ok, Err, slice_index, slice_index_or, refl, sym, ap, ◌∙◌, subst}
 use Rattle.std.specs.Prelude.{IfOk, OnOk, OnErr}
 use Rattle.std.proofs.lemmas.List.{length-map, get_or-map}
-use Rattle.std.proofs.lemmas.Option.{slice_get_read}
 use Rattle.blob_id.specs.declared.memory.Memory.{Memory}
 use Rattle.cell_model.specs.declared.ask.Reply.{Reply}
 use Rattle.req_frame.specs.declared.frame.Frame.{Frame}
 use Rattle.mem_fabric.specs.declared.flight.Asked.{Asked}
 use Rattle.mem_fabric.specs.Asking.{AsksNothing}
-use Rattle.mem_fabric.specs.Network.{Network, Moved, place_among, moved, runs, runs_at, ran, asked_in, asked_by, asked_of, answered, quiet, taken, ticked, dropped, dropped_reply, handed, after_move, is_asking, MayGive, Makes, Does}
-use Rattle.mem_fabric.specs.Sound.{State, IsSound, IsSent, told_world, network_of, asked_number, replied_number, RunsRequest, QuestionAt}
+use Rattle.mem_fabric.specs.Network.{Network, Moved, place_among, moved, runs, asked_in, asked_by, asked_of, answered, quiet, taken, ticked, dropped, dropped_reply, handed, after_move, MayGive, Makes, Does}
+use Rattle.mem_fabric.specs.Sound.{State, IsSound, IsSent, told_world, network_of, asked_number, replied_number, RunsRequest}
 use Rattle.world_model.specs.declared.moves.Move.{Move}
 use Rattle.world_model.specs.declared.moves.Move.TheVariants as moves
 use Rattle.world_model.specs.declared.step.Event.{Event}
 use Rattle.world_model.specs.Frames.{frame_in}
 use Rattle.world_model.specs.Lists.{numbered}
-use Rattle.world_model.specs.World.{Call, call_in}
+use Rattle.world_model.specs.World.{call_in}
 
 -- a request that asks nothing comes to nothing
 asks_none : (node : ℕ) (frame : Option Frame) → AsksNothing frame → asked_in node frame ≡ None

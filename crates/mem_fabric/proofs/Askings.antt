@@ -1,5 +1,5 @@
 -- One ask of what stands in a place, as an ask of a node and a partition.
-use Rattle.std.proofs.Common.{◌≡◌, ◌⊎◌, ℕ, zero, suc, ◌+◌, ◌-◌, ◌*◌, ◌/◌, ◌%◌, ◌<◌, ◌≤◌, arith, ◌==◌, Bool, true, false, ◌&&◌, cond, nat_lt, List, [], ◌∷◌, length, Option, Some, None, slice_get, slice_set, refl, sym, ap, ◌∙◌, subst, inl, inr}
+use Rattle.std.proofs.Common.{◌≡◌, ◌⊎◌, ℕ, zero, suc, ◌+◌, ◌-◌, ◌*◌, ◌/◌, ◌%◌, ◌<◌, ◌≤◌, arith, ◌==◌, Bool, true, false, ◌&&◌, cond, nat_lt, List, [], ◌∷◌, length, Option, Some, None, slice_set, refl, sym, ap, ◌∙◌, subst, inl, inr}
 use Rattle.std.specs.Option.{is_some}
 use Rattle.std.proofs.lemmas.Bool.Decides.{nat_tests}
 use Rattle.std.proofs.lemmas.Nat.{div-mul-add, mod-mul-add}
@@ -9,9 +9,8 @@ use Rattle.cell_model.specs.declared.ask.Reply.{Reply}
 use Rattle.cell_model.specs.declared.cell.Cell.{Cell}
 use Rattle.cell_model.specs.declared.cell.Cell.TheVariants.{Absent, Held, Gone}
 use Rattle.cell_model.specs.declared.plain.PlainReplica.{PlainReplica}
-use Rattle.cell_model.specs.Asks.{id_of, landed, Answers, IsRefusal, IsStep, Refuses}
+use Rattle.cell_model.specs.Asks.{id_of, landed, Answers, IsRefusal, Refuses}
 use Rattle.cell_model.specs.Cells.{join}
-use Rattle.cell_model.specs.Plain.{plain_told}
 use Rattle.mem_fabric.specs.Slots.{Standing, slot_at, replica_at, cell_held, SlotAnswers}
 use Rattle.mem_fabric.specs.Standing.{stands_at, cells_of, IsAsked}
 use Rattle.world_model.specs.World.{same_id, is_at}

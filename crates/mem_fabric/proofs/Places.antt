@@ -1,5 +1,5 @@
 -- The places of replicas: which one is that of a node and a partition, and what an opening puts there.
-use Rattle.std.proofs.Common.{◌≡◌, ◌≢◌, ◌⊎◌, ℕ, zero, suc, ◌+◌, ◌*◌, ◌/◌, ◌%◌, ◌<◌, ◌≤◌, arith, ◌==◌, Bool, true, false, ◌&&◌, cond, nat_lt, List, [], ◌∷◌, ◌++◌, length, Option, Some, None, slice_get, refl, sym, ap, ◌∙◌, subst, inl, inr, add-one, zero-mul, length-append}
+use Rattle.std.proofs.Common.{◌≡◌, ℕ, zero, suc, ◌+◌, ◌*◌, ◌/◌, ◌%◌, ◌<◌, ◌≤◌, arith, ◌==◌, Bool, true, false, ◌&&◌, cond, nat_lt, List, [], ◌∷◌, ◌++◌, length, Option, Some, None, refl, sym, ap, ◌∙◌, subst, inl, inr, add-one, zero-mul, length-append}
 use Rattle.std.proofs.Math.Nat.{suc-mul}
 use Rattle.std.specs.Option.{is_some}
 use Rattle.std.proofs.lemmas.Bool.{cases_lt}
@@ -10,9 +10,8 @@ use Rattle.blob_id.specs.declared.id.BlobId.{BlobId}
 use Rattle.cell_model.specs.declared.cell.Cell.TheVariants.{Absent}
 use Rattle.cell_model.specs.declared.plain.PlainReplica.{PlainReplica}
 use Rattle.cell_model.specs.Cells.{cell_in}
-use Rattle.cell_model.specs.Plain.{plain_told}
 use Rattle.mem_fabric.specs.Network.{has_replica}
-use Rattle.mem_fabric.specs.Slots.{Standing, slot_in, slot_at, replica_at, cell_held, IsReady, AllReady, IsEmpty, IsFirst}
+use Rattle.mem_fabric.specs.Slots.{Standing, slot_in, slot_at, cell_held, IsReady, AllReady, IsEmpty, IsFirst}
 use Rattle.mem_fabric.specs.Standing.{stands_at, cells_of, IsOpened}
 use Rattle.world_model.specs.declared.shape.Shape.{Shape}
 use Rattle.world_model.specs.Lists.{first_below}

@@ -1,15 +1,14 @@
 -- What a call does, as acts, and what acts from the beginning say of the calls told.
 use Rattle.std.proofs.Common.{◌≡◌, ℕ, zero, suc, nat_lt, Bool, true, false, cond, List, [], ◌∷◌, ◌++◌, length, Option, Some, None, Result, Ok, Err, refl, sym, ap, ◌∙◌, subst, append-nil}
 use Rattle.std.specs.Prelude.{IsSome, OnOk, OnErr}
-use Rattle.std.specs.Option.{is_some}
 use Rattle.blob_id.specs.declared.id.BlobId.{BlobId}
 use Rattle.cell_model.specs.declared.cell.Cell.TheVariants.{Absent}
 use Rattle.blob_id.specs.declared.memory.Memory.{Memory}
-use Rattle.mem_fabric.specs.Network.{Network, nothing, nothing_held, after_open, after_send, after_move, Does, world_of}
+use Rattle.mem_fabric.specs.Network.{Network, nothing, nothing_held, after_open, after_send, Does}
 use Rattle.mem_fabric.specs.Slots.{cell_held}
 use Rattle.mem_fabric.specs.Standing.{none_standing, cells_of}
 use Rattle.mem_fabric.specs.Past.{calls_of}
-use Rattle.mem_fabric.specs.Played.{Act, Opens, Sends, Moves, Fails, acted, all_acted, MayAct, AllMay, DidAll, moves_of, PlaysBy, Plays, Falls, AtMostOne, IsPlayed}
+use Rattle.mem_fabric.specs.Played.{Act, Opens, Sends, Moves, Fails, acted, all_acted, MayAct, AllMay, moves_of, Plays, Falls, AtMostOne, IsPlayed}
 use Rattle.mem_fabric.specs.PlayedLaws.{plays_on}
 use Rattle.mem_fabric.specs.Sound.{State, IsSound, fresh_state, network_of, image_of}
 use Rattle.mem_fabric.proofs.Worlds.{waits_alike}
@@ -19,7 +18,6 @@ use Rattle.world_model.specs.declared.step.Called.{Called}
 use Rattle.world_model.specs.declared.step.Event.{Event}
 use Rattle.world_model.specs.Fabric.{HasNode, Awaits, RunsTo}
 use Rattle.world_model.specs.Told.{told}
-use Rattle.world_model.specs.World.{Cells, world, Run}
 
 pub plays_open : (given : List Move) (s s' : State) (shape : Shape) → s ≡ fresh_state → network_of s' ≡ after_open (network_of s) shape → Plays given (network_of s) given (network_of s')
 plays_open given s s' shape fresh e = (Opens shape ∷ [], tt, record { moves = sym (append-nil given); may = (tt, ap network_of fresh); network = e })

@@ -1,5 +1,5 @@
 -- What bytes ask, and what their frame asks.
-use Rattle.std.proofs.Common.{◌≡◌, ℕ, Bool, true, false, List, Option, Some, None, refl, sym, ap, ◌∙◌, subst}
+use Rattle.std.proofs.Common.{◌≡◌, ℕ, Bool, true, false, List, Option, Some, None, refl, sym, subst}
 use Rattle.req_frame.specs.declared.frame.Body.{Body}
 use Rattle.req_frame.specs.declared.frame.Frame.{Frame}
 use Rattle.req_frame.specs.Reading.{frame_of}

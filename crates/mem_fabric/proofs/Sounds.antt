@@ -1,14 +1,13 @@
 -- What holds of a state at any time, after each kind of call.
-use Rattle.std.proofs.Common.{◌≡◌, ◌⊎◌, ℕ, zero, suc, ◌+◌, ◌-◌, ◌^◌, min, ◌<◌, ◌≤◌, arith, ◌==◌, Bool, true, false, cond, List, [], ◌∷◌, ◌++◌, length, map, take, drop, Option, Some, None, All, slice_index, slice_index_or, slice_get, refl, sym, ap, ◌∙◌, subst, inl, inr, length-append}
-use Rattle.std.specs.Prelude.{remove, IsSome}
+use Rattle.std.proofs.Common.{◌≡◌, ◌⊎◌, ℕ, zero, suc, ◌+◌, ◌-◌, ◌^◌, min, ◌<◌, ◌≤◌, arith, ◌==◌, Bool, true, false, cond, List, [], ◌∷◌, ◌++◌, length, map, take, drop, Some, None, All, slice_index, slice_index_or, slice_get, refl, sym, ap, ◌∙◌, subst, inl, inr, length-append}
+use Rattle.std.specs.Prelude.{filter, not, IsSome}
 use Rattle.std.proofs.lemmas.List.{map-append, get_or-map}
 use Rattle.std.proofs.lemmas.List.Edits.{length-remove}
-use Rattle.std.proofs.lemmas.List.Elements.{All-push, All-weaker, All-append, All-take, All-drop}
+use Rattle.std.proofs.lemmas.List.Elements.{All-head, All-tail, All-filter, All-push, All-weaker, All-append, All-take, All-drop}
+use Rattle.std.proofs.lemmas.List.Sums.{length-filter, count_by-le-length}
 use Rattle.std.proofs.lemmas.Option.{slice_get_read}
 use Rattle.blob_id.specs.declared.id.BlobId.{BlobId}
-use Rattle.cell_model.specs.declared.ask.Ask.{Ask}
 use Rattle.cell_model.specs.declared.ask.Reply.{Reply}
-use Rattle.cell_model.specs.declared.cell.Cell.{Cell}
 use Rattle.cell_model.specs.Asks.{id_of, Answers, IsRefusal, AnswersInRange}
 use Rattle.cell_model.specs.Cells.{join}
 use Rattle.req_frame.specs.declared.frame.Body.{Body}
@@ -20,12 +19,12 @@ use Rattle.mem_fabric.specs.declared.asking.Question.{Question}
 use Rattle.mem_fabric.specs.declared.flight.Asked.{Asked}
 use Rattle.mem_fabric.specs.declared.flight.Replied.{Replied}
 use Rattle.mem_fabric.specs.declared.past.Past.{Past}
-use Rattle.mem_fabric.specs.Network.{Network, Moved, nothing_held, world_of, taken, ticked, quiet, handed, reply_event, after_move, after_send, asked_of, asked_by, answered, ran, stands, MayAnswer, MayGive}
+use Rattle.mem_fabric.specs.Network.{Network, Moved, nothing_held, world_of, taken, ticked, quiet, is_to, is_by, requests_elsewhere, replies_elsewhere, broken, handed, reply_event, after_move, after_send, asked_of, asked_by, answered, ran, stands, MayAnswer, MayGive}
 use Rattle.mem_fabric.specs.Past.{calls_of}
 use Rattle.mem_fabric.specs.Slots.{Standing}
 use Rattle.mem_fabric.specs.Standing.{stands_at, cells_of, IsAsked}
 use Rattle.mem_fabric.specs.Sound.{State, told_world, IsSent, IsGiven, IsStateOf, IsSound, network_of, image_of, KeepsState, asked_number, replied_number, RunsRequest, QuestionAt, AskedAs}
-use Rattle.mem_fabric.proofs.Worlds.{goes_to, AllowedOn, world_on, keeps_run, after_quiet, after_now, after_sent, after_handed, after_ran}
+use Rattle.mem_fabric.proofs.Worlds.{goes_to, AllowedOn, world_on, keeps_run, after_quiet, after_now, after_cut, after_sent, after_handed, after_ran}
 use Rattle.world_model.specs.declared.step.Called.{Called}
 use Rattle.world_model.specs.declared.step.Event.{Event}
 use Rattle.world_model.specs.declared.step.Step.{Step}
@@ -33,7 +32,7 @@ use Rattle.world_model.specs.Fabric.{IsImageOf, KeepsRun}
 use Rattle.world_model.specs.Frames.{frame_in}
 use Rattle.world_model.specs.Lists.{numbered}
 use Rattle.world_model.specs.Told.{items_of, told}
-use Rattle.world_model.specs.World.{Cells, World, Request, Answered, Call, Reply_made, Now_made, made_by, Shows, IsNext, world, call_from, call_of, call_at, arriving_call, MayReply, MayRun}
+use Rattle.world_model.specs.World.{Cells, World, Request, Answered, Call, Reply_made, Broken_made, Now_made, made_by, Shows, IsNext, world, call_from, call_of, call_at, arriving_call, MayReply, MayRun}
 use Rattle.world_model.proofs.CellLaws.{same_number, number_true}
 use Rattle.world_model.proofs.NoteLaws.{decoded_frame}
 
@@ -65,6 +64,9 @@ All-taken P xs i false h = All-append P (take i xs) (drop (suc i) xs) (All-take 
 pub length-taken : {A : Type 0} (xs : List A) (i : ℕ) (stays : Bool) → i < length xs → length (taken xs i stays) ≤ length xs
 length-taken xs i true l = omega arith
 length-taken xs i false l = omega (arith, length-remove xs i l)
+
+length-filtered : {A : Type 0} (test : A → Bool) (xs : List A) → length (filter test xs) ≤ length xs
+length-filtered test xs = omega (arith, length-filter test xs, count_by-le-length test xs)
 
 map-take : {A B : Type 0} (f : A → B) (n : ℕ) (xs : List A) → map f (take n xs) ≡ take n (map f xs)
 map-take f zero xs = refl
@@ -100,10 +102,6 @@ pub record Steps (s s' : State) (m : Moved) : Type 0 where
   pub sound : IsSound s'
   pub run : KeepsState s s'
   pub network : network_of s' ≡ after_move (network_of s) m
-
--- what a move is told as
-abbrev pub told_as : Moved → Called
-told_as m = record { steps = m.steps; given = Some m.event }
 
 -- ---- the clock
 
@@ -146,16 +144,19 @@ steps_now s ms moment past sound small moment_is told_is =
 
 -- ---- nothing comes of it
 
-steps_quiet : (s : State) (requests : List Asked) (replies : List Replied) (past : Past) → IsSound s
+-- a state with less in flight, after a call that changes nothing else of the world
+steps_less : (s : State) (steps : List Step) (event : Event) (requests : List Asked) (replies : List Replied) (past : Past) → IsSound s
+    → goes_to (told_world s.past) (items_of (record { steps = steps; given = Some event })) ≡ told_world s.past
+    → AllowedOn (told_world s.past) (items_of (record { steps = steps; given = Some event }))
     → All (IsSent (told_world s.past).sent) requests → length requests ≤ length s.requests
     → All (IsGiven (told_world s.past).replies) replies → length replies ≤ length s.replies
-    → calls_of past ≡ record { steps = []; given = Some Event.Quiet } ∷ calls_of s.past
-    → Steps s (record s { requests = requests; replies = replies; past = past }) (quiet (map asked_number requests) (map replied_number replies))
-steps_quiet s requests replies past sound known few known' few' told_is =
+    → calls_of past ≡ record { steps = steps; given = Some event } ∷ calls_of s.past
+    → Steps s (record s { requests = requests; replies = replies; past = past }) (record { steps = steps; event = event; requests = map asked_number requests; replies = map replied_number replies })
+steps_less s steps event requests replies past sound stays allowed known few known' few' told_is =
     let w : World = told_world s.past in
     let st = sound.state in
     let s' : State = record s { requests = requests; replies = replies; past = past } in
-    let there : told_world past ≡ w = world_by past s.past _ _ told_is (after_quiet w) in
+    let there : told_world past ≡ w = world_by past s.past _ _ told_is stays in
     let state : IsStateOf w s' = record {
       cells = st.cells;
       sure = st.sure;
@@ -180,9 +181,17 @@ steps_quiet s requests replies past sound known few known' few' told_is =
     } in
     record {
       sound = sound';
-      run = keeps s s' (record { steps = []; given = Some Event.Quiet }) sound sound' told_is (tt, tt);
+      run = keeps s s' (record { steps = steps; given = Some event }) sound sound' told_is allowed;
       network = ap (λ calls. record { shape = s.shape; calls = calls; requests = map asked_number requests; replies = map replied_number replies }) told_is;
     }
+
+steps_quiet : (s : State) (requests : List Asked) (replies : List Replied) (past : Past) → IsSound s
+    → All (IsSent (told_world s.past).sent) requests → length requests ≤ length s.requests
+    → All (IsGiven (told_world s.past).replies) replies → length replies ≤ length s.replies
+    → calls_of past ≡ record { steps = []; given = Some Event.Quiet } ∷ calls_of s.past
+    → Steps s (record s { requests = requests; replies = replies; past = past }) (quiet (map asked_number requests) (map replied_number replies))
+steps_quiet s requests replies past sound known few known' few' told_is =
+    steps_less s [] Event.Quiet requests replies past sound (after_quiet (told_world s.past)) (tt, tt) known few known' few' told_is
 
 pub steps_left : (s : State) (place : ℕ) (stays : Bool) (past : Past) → IsSound s → place < length s.requests
     → calls_of past ≡ record { steps = []; given = Some Event.Quiet } ∷ calls_of s.past
@@ -201,6 +210,49 @@ steps_dropped s place past sound within told_is =
     (steps_quiet s s.requests (taken s.replies place false) past sound
     sound.state.requests (omega arith)
     (All-taken (IsGiven (told_world s.past).replies) s.replies place false sound.state.replies) (length-taken s.replies place false within) told_is)
+
+-- ---- the connection to a node breaks
+
+-- a test of numbers keeps the numbers of those that another test keeps, where both agree on each
+filter_numbers : {A : Type 0} (number : A → ℕ) (p : ℕ → Bool) (q : A → Bool) (xs : List A) → All (λ x. p (number x) ≡ q x) xs → map number (filter q xs) ≡ filter p (map number xs)
+filter_numbers number p q [] all = refl
+filter_numbers {A} number p q (x ∷ xs) all = go (p (number x)) (q x) (All-head (λ y. p (number y) ≡ q y) x xs all) (filter_numbers number p q xs (All-tail (λ y. p (number y) ≡ q y) x xs all))
+  where
+    go : (b c : Bool) → b ≡ c → map number (filter q xs) ≡ filter p (map number xs) → map number (cond c (x ∷ filter q xs) (filter q xs)) ≡ cond b (number x ∷ filter p (map number xs)) (filter p (map number xs))
+    go true true e ih = ap (λ l. number x ∷ l) ih
+    go true false e ih = absurd cc
+    go false true e ih = absurd cc
+    go false false e ih = ih
+
+-- a request to another node, or a reply of another one
+abbrev pub asked_elsewhere : ℕ → Asked → Bool
+asked_elsewhere node asked = not (asked.node == node)
+
+abbrev pub replied_elsewhere : ℕ → Replied → Bool
+replied_elsewhere node replied = not (replied.node == node)
+
+pub steps_cut : (s : State) (node : ℕ) (past : Past) → IsSound s
+    → calls_of past ≡ record { steps = Step.Cut node ∷ []; given = Some (Event.Broken node) } ∷ calls_of s.past
+    → Steps s (record s { requests = filter (asked_elsewhere node) s.requests; replies = filter (replied_elsewhere node) s.replies; past = past }) (broken (network_of s) node)
+steps_cut s node past sound told_is =
+    let w : World = told_world s.past in
+    let st = sound.state in
+    let requests : List Asked = filter (asked_elsewhere node) s.requests in
+    let replies : List Replied = filter (replied_elsewhere node) s.replies in
+    let s' : State = record s { requests = requests; replies = replies; past = past } in
+    let numbers : map asked_number requests ≡ requests_elsewhere (network_of s) node =
+    filter_numbers asked_number (λ send. not (is_to node (numbered w.sent send))) (asked_elsewhere node) s.requests
+    (All-weaker (IsSent w.sent) (λ a. not (is_to node (numbered w.sent a.number)) ≡ asked_elsewhere node a) (λ a h. ap (λ o. not (is_to node o)) h) s.requests st.requests) in
+    let numbers' : map replied_number replies ≡ replies_elsewhere (network_of s) node =
+    filter_numbers replied_number (λ reply. not (is_by node (numbered w.replies reply))) (replied_elsewhere node) s.replies
+    (All-weaker (IsGiven w.replies) (λ r. not (is_by node (numbered w.replies r.number)) ≡ replied_elsewhere node r) (λ r g. ap (λ o. not (is_by node o)) g.is) s.replies st.replies) in
+    let next : IsNext (w.waiting ++ Broken_made node ∷ []) (Event.Broken node) = subst (λ l. IsNext (l ++ Broken_made node ∷ []) (Event.Broken node)) (sym st.given) refl in
+    let less : Steps s s' (record { steps = Step.Cut node ∷ []; event = Event.Broken node; requests = map asked_number requests; replies = map replied_number replies }) =
+    steps_less s (Step.Cut node ∷ []) (Event.Broken node) requests replies past sound (after_cut w node st.given) ((tt, tt), next)
+    (All-filter (asked_elsewhere node) (IsSent w.sent) s.requests st.requests) (length-filtered (asked_elsewhere node) s.requests)
+    (All-filter (replied_elsewhere node) (IsGiven w.replies) s.replies st.replies) (length-filtered (replied_elsewhere node) s.replies) told_is in
+    subst (λ l. Steps s s' (record { steps = Step.Cut node ∷ []; event = Event.Broken node; requests = l; replies = replies_elsewhere (network_of s) node })) numbers
+    (subst (λ l. Steps s s' (record { steps = Step.Cut node ∷ []; event = Event.Broken node; requests = map asked_number requests; replies = l })) numbers' less)
 
 -- ---- a request is sent
 

@@ -1,5 +1,5 @@
 -- Nodes of a network that is open.
-use Rattle.std.proofs.Common.{◌≡◌, ℕ, ◌≤◌, arith, Option, Some, None, refl}
+use Rattle.std.proofs.Common.{ℕ, ◌≤◌, arith, Option, Some, None, refl}
 use Rattle.std.specs.Prelude.{IsSome}
 use Rattle.world_model.specs.declared.shape.Shape.{Shape}
 use Rattle.world_model.specs.Fabric.{HasNode}

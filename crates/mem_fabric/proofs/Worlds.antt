@@ -1,8 +1,7 @@
 -- Worlds after the items of a call, and worlds from other cells.
-use Rattle.std.proofs.Common.{◌≡◌, ℕ, ◌+◌, ◌≤◌, arith, ◌==◌, Bool, true, false, cond, List, [], ◌∷◌, ◌++◌, drop, Option, Some, None, refl, sym, ap, ◌∙◌, subst}
+use Rattle.std.proofs.Common.{◌≡◌, ℕ, ◌==◌, cond, List, [], ◌∷◌, ◌++◌, drop, Option, Some, refl, sym, ap, ◌∙◌, subst}
 use Rattle.blob_id.specs.declared.id.BlobId.{BlobId}
 use Rattle.cell_model.specs.declared.ask.Reply.{Reply}
-use Rattle.cell_model.specs.declared.cell.Cell.{Cell}
 use Rattle.cell_model.specs.declared.cell.Cell.TheVariants.{Absent}
 use Rattle.cell_model.specs.Cells.{join}
 use Rattle.mem_fabric.specs.Network.{nothing_held}
@@ -10,12 +9,12 @@ use Rattle.mem_fabric.proofs.Askings.{join_absent}
 use Rattle.world_model.specs.declared.step.Called.{Called}
 use Rattle.world_model.specs.declared.step.Event.{Event}
 use Rattle.world_model.specs.declared.step.Step.{Step}
-use Rattle.world_model.specs.Fabric.{Image, IsImageOf, LeadsTo, RunsTo, KeepsRun}
+use Rattle.world_model.specs.Fabric.{Image, IsImageOf, KeepsRun}
 use Rattle.world_model.specs.Frames.{frame_in}
 use Rattle.world_model.specs.Lists.{numbered}
 use Rattle.world_model.specs.Record.{Item, Marked, Drawn, Aimed, Took, Given, Withheld, Decided, Record}
 use Rattle.world_model.specs.Told.{items_of, told}
-use Rattle.world_model.specs.World.{Cells, World, Request, Answered, Made, Reply_made, Now_made, world, after, call_of, arriving_call, answered, made_by, Allowed, Run}
+use Rattle.world_model.specs.World.{Cells, World, Request, Answered, Made, Reply_made, Broken_made, Now_made, world, after, call_of, arriving_call, answered, made_by, Allowed, Run}
 
 -- the world after items
 abbrev pub goes_to : World → Record → World
@@ -53,6 +52,11 @@ pub after_now : (w : World) (ms : ℕ) → w.waiting ≡ [] → after (after w (
 after_now w ms none =
     ap (λ (c : Cells). record w { cells = c; waiting = drop 1 (w.waiting ++ Now_made ms ∷ []); clock = ms }) (same_twice w.cells)
     ∙ ap (λ (l : List Made). record w { waiting = l; clock = ms }) (ap (λ (l : List Made). drop 1 (l ++ Now_made ms ∷ [])) none ∙ sym none)
+
+pub after_cut : (w : World) (node : ℕ) → w.waiting ≡ [] → after (after w (Took (Step.Cut node))) (Given (Event.Broken node)) ≡ w
+after_cut w node none =
+    ap (λ (c : Cells). record w { cells = c; waiting = drop 1 (w.waiting ++ Broken_made node ∷ []) }) (same_twice w.cells)
+    ∙ ap (λ (l : List Made). record w { waiting = l }) (ap (λ (l : List Made). drop 1 (l ++ Broken_made node ∷ [])) none ∙ sym none)
 
 pub after_ran : (w : World) (send : ℕ) (request : Request) (reply : Reply) → numbered w.sent send ≡ Some request
     → after (after w (Took (Step.Exec send reply))) (Given Event.Quiet)

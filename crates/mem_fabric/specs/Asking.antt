@@ -1,5 +1,5 @@
 -- What a frame asks of a replica, as the code reads it.
-use Rattle.std.specs.Prelude.{◌≡◌, ℕ, true, false, Option, Some, None}
+use Rattle.std.specs.Prelude.{◌≡◌, true, false, Option, Some, None}
 use Rattle.cell_model.specs.Asks.{AsksInRange}
 use Rattle.cell_model.specs.declared.ask.Ask.{Ask}
 use Rattle.req_frame.specs.declared.frame.Body.{Body}

@@ -1,11 +1,8 @@
 -- A network in memory: what it told, what is in flight, and what a move makes of it.
-use Rattle.std.specs.Prelude.{◌≡◌, ◌⊎◌, ℕ, ◌+◌, ◌-◌, ◌%◌, ◌^◌, ◌<◌, min, ◌==◌, Bool, true, false, ◌&&◌, nat_le, nat_lt, cond, List, [], ◌∷◌, ◌++◌, length, Option, Some, None, IsSome, slice_index, remove, Result, Ok, Err}
+use Rattle.std.specs.Prelude.{◌≡◌, ◌⊎◌, ℕ, ◌+◌, ◌-◌, ◌%◌, ◌^◌, ◌<◌, min, ◌==◌, Bool, true, false, ◌&&◌, nat_le, nat_lt, not, cond, List, [], ◌∷◌, ◌++◌, length, filter, Option, Some, None, slice_index, remove, Result, Ok, Err}
 use Rattle.std.specs.Option.{is_some}
-use Rattle.blob_id.specs.declared.id.BlobId.{BlobId}
 use Rattle.blob_id.specs.declared.memory.Memory.{Memory}
-use Rattle.cell_model.specs.declared.ask.Ask.{Ask}
 use Rattle.cell_model.specs.declared.ask.Reply.{Reply}
-use Rattle.cell_model.specs.declared.cell.Cell.{Cell}
 use Rattle.cell_model.specs.declared.cell.Cell.TheVariants.{Absent}
 use Rattle.cell_model.specs.Asks.{id_of, Answers, IsRefusal}
 use Rattle.req_frame.specs.declared.frame.Body.{Body}
@@ -145,6 +142,41 @@ abbrev pub dropped_reply : Network → Option ℕ → Moved
 dropped_reply n None = ticked n 0
 dropped_reply n (Some place) = quiet n.requests (taken n.replies place false)
 
+-- the node is one of the shape, counted from 1
+abbrev pub is_node : Option Shape → ℕ → Bool
+is_node None node = false
+is_node (Some shape) node = nat_le 1 node && nat_le node shape.nodes
+
+-- the request goes to the node
+abbrev pub is_to : ℕ → Option Request → Bool
+is_to node None = false
+is_to node (Some request) = request.node == node
+
+-- the reply was made by the node
+abbrev pub is_by : ℕ → Option Answered → Bool
+is_by node None = false
+is_by node (Some answer) = answer.request.node == node
+
+-- the requests in flight that go to other nodes
+abbrev pub requests_elsewhere : Network → ℕ → List ℕ
+requests_elsewhere n node = filter (λ send. not (is_to node (numbered (world_of n).sent send))) n.requests
+
+-- the replies in flight that other nodes made
+abbrev pub replies_elsewhere : Network → ℕ → List ℕ
+replies_elsewhere n node = filter (λ reply. not (is_by node (numbered (world_of n).replies reply))) n.replies
+
+-- the connection to a node breaks: what is in flight between it and the router is lost
+abbrev pub broken : Network → ℕ → Moved
+broken n node = record {
+  steps = steps.Cut node ∷ [];
+  event = events.Broken node;
+  requests = requests_elsewhere n node;
+  replies = replies_elsewhere n node;
+}
+
+abbrev pub cut : Network → ℕ → Moved
+cut n node = cond (is_node n.shape node) (broken n node) (ticked n 0)
+
 -- What a move does; this is the reply, where it runs a request that asks something. Other moves are those on nothing.
 abbrev pub moved : Network → Reply → Move → Moved
 moved n reply (moves.Run k) = ran n reply (place_among k (length n.requests)) false
@@ -154,6 +186,7 @@ moved n reply (moves.Hand k) = handed n (place_among k (length n.replies)) false
 moved n reply (moves.HandAgain k) = handed n (place_among k (length n.replies)) true
 moved n reply (moves.DropReply k) = dropped_reply n (place_among k (length n.replies))
 moved n reply (moves.Tick ms) = ticked n ms
+moved n reply (moves.Cut node) = cut n node
 moved n reply _ = ticked n 0
 
 -- the network after a move, told as one call

@@ -1,6 +1,6 @@
 -- The calls that a past stands for.
-use Rattle.std.specs.Prelude.{ℕ, List, [], ◌∷◌, Option, Some, None}
-use Rattle.mem_fabric.specs.declared.past.Past.{Past, Begun, Opened', Sent', Now', Quiet', Ran', Handed'}
+use Rattle.std.specs.Prelude.{List, [], ◌∷◌, Some, None}
+use Rattle.mem_fabric.specs.declared.past.Past.{Past, Begun, Opened', Sent', Now', Quiet', Ran', Handed', Cut'}
 use Rattle.world_model.specs.declared.step.Called.{Called}
 use Rattle.world_model.specs.declared.step.Event.{Event}
 use Rattle.world_model.specs.declared.step.Step.{Step}
@@ -14,3 +14,4 @@ calls_of (Now' marker before ms) = record { steps = Step.Now ms.value ∷ []; gi
 calls_of (Quiet' marker before) = record { steps = []; given = Some Event.Quiet } ∷ calls_of before
 calls_of (Ran' marker before send reply) = record { steps = Step.Exec send.value reply.value ∷ []; given = Some Event.Quiet } ∷ calls_of before
 calls_of (Handed' marker before reply node frame) = record { steps = Step.Hand reply.value ∷ []; given = Some (Event.Reply node.value frame.value) } ∷ calls_of before
+calls_of (Cut' marker before node) = record { steps = Step.Cut node.value ∷ []; given = Some (Event.Broken node.value) } ∷ calls_of before

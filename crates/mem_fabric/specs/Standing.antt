@@ -5,7 +5,7 @@ use Rattle.blob_id.specs.declared.id.BlobId.{BlobId}
 use Rattle.cell_model.specs.declared.ask.Ask.{Ask}
 use Rattle.cell_model.specs.declared.ask.Reply.{Reply}
 use Rattle.cell_model.specs.declared.cell.Cell.TheVariants.{Absent}
-use Rattle.cell_model.specs.Asks.{id_of, landed, Answers, IsRefusal, AnswersInRange}
+use Rattle.cell_model.specs.Asks.{id_of, landed, Answers, IsRefusal}
 use Rattle.cell_model.specs.Cells.{join}
 use Rattle.mem_fabric.specs.Network.{has_replica}
 use Rattle.mem_fabric.specs.Slots.{Standing, replica_at, cell_held}

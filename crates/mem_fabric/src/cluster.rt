@@ -1,14 +1,14 @@
 //! The nodes and what is in flight between them and the router.
 
 ghost use Rattle.std.specs.Prelude.{false, ◌≡◌, ◌<◌, ◌≤◌, length, vec_len, Some, OnOk, OnErr, IfOk, IfSome};
-ghost use Rattle.mem_fabric.specs.Network.{Network, nothing, after_open, after_send, after_move, moved, ticked, dropped, dropped_reply, handed, quiet, taken, Makes, Does, Within};
+ghost use Rattle.mem_fabric.specs.Network.{Network, nothing, after_open, after_send, after_move, moved, ticked, dropped, dropped_reply, handed, quiet, taken, is_node, broken, cut, Makes, Does, Within};
 ghost use Rattle.mem_fabric.specs.Sound.{State, fresh_state, network_of, KeepsState, QuestionAt, RunsRequest};
 ghost use Rattle.mem_fabric.specs.Past.{calls_of};
 ghost use Rattle.world_model.specs.Fabric.{Awaits};
 ghost use Rattle.world_model.specs.Shape.{IsShape};
 
 use crate::asking::{Question, question_in};
-use crate::flight::{Asked, Replied, add, place_among, push, take_out};
+use crate::flight::{Asked, Replied, add, drop_asked, drop_replied, place_among, push, take_out};
 use crate::past::Past;
 use crate::replicas::Replicas;
 use blob_id::{Bytes, Memory};
@@ -214,6 +214,28 @@ impl Cluster {
         Ok(Event::Reply { node, frame })
     }
 
+    /// Whether a node is one of the shape.
+    fn is_node(&self, node: u32) -> bool
+        ensures { result ≡ is_node self.now.shape node }
+    {
+        match &self.shape {
+            Some(shape) => 1 <= node && node <= shape.nodes,
+            None => false,
+        }
+    }
+
+    /// The connection to a node breaks: what is in flight between it and the router is lost.
+    fn break_off(&mut self, node: u32) -> Event
+        ensures broken { result ≡ Event.Broken node }
+        ensures network { network_of self.new ≡ after_move (network_of self.old) (broken (network_of self.old) node) }
+        ensures run { KeepsState self.old self.new }
+    {
+        drop_asked(&mut self.requests, node);
+        drop_replied(&mut self.replies, node);
+        self.past = Past::Cut(Snapshot::of(&self.past), Snapshot::of(&node));
+        Event::Broken { node }
+    }
+
     /// The request at a place, which asks this, is run.
     fn answer(&mut self, place: usize, stays: bool, question: Question) -> Result<Event, Memory>
         requires place { place < length self.old.requests }
@@ -327,6 +349,19 @@ impl Cluster {
         }
     }
 
+    /// The connection to a node breaks, or a move on nothing is done.
+    fn cut_at(&mut self, node: u32) -> Event
+        ensures made { (cut (network_of self.old) node).event ≡ result }
+        ensures network { network_of self.new ≡ after_move (network_of self.old) (cut (network_of self.old) node) }
+        ensures run { KeepsState self.old self.new }
+    {
+        if self.is_node(node) {
+            self.break_off(node)
+        } else {
+            self.tick(0)
+        }
+    }
+
     /// Does one move.
     pub fn act(&mut self, chosen: Move) -> Result<Event, Memory>
         ensures does { Does (network_of self.old) chosen (network_of self.new) result }
@@ -343,11 +378,10 @@ impl Cluster {
             Move::HandAgain(k) => self.hand_at(place_among(k, replies), true),
             Move::DropReply(k) => Ok(self.drop_reply_at(place_among(k, replies))),
             Move::Tick(ms) => Ok(self.tick(ms)),
-            Move::Cut(_)
-            | Move::Stop(_)
-            | Move::Restart(_)
-            | Move::Pull(_, _, _)
-            | Move::Compact(_, _) => Ok(self.tick(0)),
+            Move::Cut(node) => Ok(self.cut_at(node)),
+            Move::Stop(_) | Move::Restart(_) | Move::Pull(_, _, _) | Move::Compact(_, _) => Ok(
+                self.tick(0),
+            ),
         }
     }
 }

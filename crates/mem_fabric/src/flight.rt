@@ -1,6 +1,6 @@
 //! What is in flight.
 
-ghost use Rattle.std.specs.Prelude.{◌≡◌, ◌<◌, ◌++◌, ◌∷◌, [], vec_len, vec_capacity, OnOk, OnErr};
+ghost use Rattle.std.specs.Prelude.{◌≡◌, ◌<◌, ◌++◌, ◌∷◌, [], ◌==◌, not, filter, vec_len, vec_capacity, OnOk, OnErr};
 ghost use Rattle.mem_fabric.specs.Network.{Within, place_among, taken};
 
 use blob_id::{Bytes, Memory};
@@ -59,4 +59,18 @@ pub fn push<T: Drop>(items: &mut Vec<T>, item: T) -> Result<(), Memory>
 {
     items.push(item)?;
     Ok(())
+}
+
+/// Drops the requests to a node.
+pub fn drop_asked(requests: &mut Vec<Asked>, node: u32)
+    ensures { requests.new.items ≡ filter (λ asked. not (asked.node == node)) requests.old.items }
+{
+    requests.retain(|asked| asked.node != node);
+}
+
+/// Drops the replies of a node.
+pub fn drop_replied(replies: &mut Vec<Replied>, node: u32)
+    ensures { replies.new.items ≡ filter (λ replied. not (replied.node == node)) replies.old.items }
+{
+    replies.retain(|replied| replied.node != node);
 }

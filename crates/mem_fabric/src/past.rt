@@ -20,4 +20,6 @@ pub enum Past {
     Ran(Snapshot<Past>, Snapshot<u32>, Snapshot<Reply>),
     /// The reply of a number came from a node.
     Handed(Snapshot<Past>, Snapshot<u32>, Snapshot<u32>, Snapshot<Bytes>),
+    /// The connection to a node broke.
+    Cut(Snapshot<Past>, Snapshot<u32>),
 }

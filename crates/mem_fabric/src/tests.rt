@@ -193,7 +193,7 @@ fn a_move_on_nothing_is_now(rt: HostRuntime) -> Result<(), Fail> {
         Move::Run(0),
         Move::Stop(1),
         Move::Tick(7),
-        Move::Cut(1),
+        Move::Restart(1),
         Move::Tick(18446744073709551615),
     ]?;
     let mut net = opened(rt.alloc(), 3, moves)?;
@@ -203,6 +203,60 @@ fn a_move_on_nothing_is_now(rt: HostRuntime) -> Result<(), Fail> {
     assert_eq!(rt; words_of(&next(&mut net)?), Said::Now(7));
     assert_eq!(rt; words_of(&next(&mut net)?), Said::Now(7));
     assert_eq!(rt; words_of(&next(&mut net)?), Said::Now(18446744073709551615));
+    Ok(())
+}
+
+#[test]
+fn a_cut_loses_what_is_in_flight_with_its_node(rt: HostRuntime) -> Result<(), Fail> {
+    let moves = vec![in rt.alloc(); Move::Run(0), Move::Run(0), Move::Cut(1)]?;
+    let mut net = opened(rt.alloc(), 3, moves)?;
+    send(&mut net, 1, &PUT)?;
+    send(&mut net, 2, &PUT)?;
+    send(&mut net, 1, &GET)?;
+    send(&mut net, 2, &GET)?;
+    assert_eq!(rt; words_of(&next(&mut net)?), Said::Quiet);
+    assert_eq!(rt; words_of(&next(&mut net)?), Said::Quiet);
+    assert_eq!(rt; words_of(&next(&mut net)?), Said::Broken(1));
+    assert_eq!(rt; words_of(&next(&mut net)?), Said::Reply(2, &STORED));
+    assert_eq!(rt; words_of(&next(&mut net)?), Said::Quiet);
+    assert_eq!(rt; words_of(&next(&mut net)?), Said::Reply(2, &BLOB));
+    assert_eq!(rt; words_of(&next(&mut net)?), Said::Now(1000));
+    send(&mut net, 1, &GET)?;
+    assert_eq!(rt; words_of(&next(&mut net)?), Said::Quiet);
+    assert_eq!(rt; words_of(&next(&mut net)?), Said::Reply(1, &BLOB));
+    Ok(())
+}
+
+#[test]
+fn a_cut_with_nothing_in_flight_is_told(rt: HostRuntime) -> Result<(), Fail> {
+    let moves = vec![in rt.alloc(); Move::Cut(3), Move::Cut(1)]?;
+    let mut net = opened(rt.alloc(), 1, moves)?;
+    assert_eq!(rt; words_of(&next(&mut net)?), Said::Broken(3));
+    assert_eq!(rt; words_of(&next(&mut net)?), Said::Broken(1));
+    assert_eq!(rt; words_of(&next(&mut net)?), Said::Now(1000));
+    Ok(())
+}
+
+#[test]
+fn a_cut_of_no_node_of_the_shape_is_now(rt: HostRuntime) -> Result<(), Fail> {
+    let moves = vec![in rt.alloc();
+        Move::Tick(7),
+        Move::Cut(0),
+        Move::Run(0),
+        Move::Cut(4),
+        Move::Cut(4294967295),
+    ]?;
+    let mut net = opened(rt.alloc(), 3, moves)?;
+    send(&mut net, 3, &PUT)?;
+    send(&mut net, 1, &GET)?;
+    assert_eq!(rt; words_of(&next(&mut net)?), Said::Now(7));
+    assert_eq!(rt; words_of(&next(&mut net)?), Said::Now(7));
+    assert_eq!(rt; words_of(&next(&mut net)?), Said::Quiet);
+    assert_eq!(rt; words_of(&next(&mut net)?), Said::Now(7));
+    assert_eq!(rt; words_of(&next(&mut net)?), Said::Now(7));
+    assert_eq!(rt; words_of(&next(&mut net)?), Said::Reply(3, &STORED));
+    assert_eq!(rt; words_of(&next(&mut net)?), Said::Quiet);
+    assert_eq!(rt; words_of(&next(&mut net)?), Said::Reply(1, &ABSENT));
     Ok(())
 }
 

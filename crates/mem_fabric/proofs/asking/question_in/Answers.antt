@@ -1,4 +1,3 @@
-use Rattle.std.proofs.Common.{rules}
 use Rattle.mem_fabric.proofs.Questions.{reads_frame, reads_nothing}
 use Rattle.mem_fabric.proofs.asking.question_in.Goals as goal
 

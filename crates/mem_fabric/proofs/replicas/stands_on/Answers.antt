@@ -1,4 +1,4 @@
-use Rattle.std.proofs.Common.{◌≡◌, true, ◌==◌, sym, subst, arith}
+use Rattle.std.proofs.Common.{◌≡◌, true, ◌==◌, arith}
 use Rattle.std.proofs.lemmas.Bool.Decides.{nat_tests}
 use Rattle.world_model.specs.Shape.{node_of}
 use Rattle.mem_fabric.proofs.Places.{found_below}

@@ -1,6 +1,6 @@
 use Rattle.std.proofs.Common.{◌≡◌, None, refl, ap, sym, ◌∙◌, subst, inl, inr}
 use Rattle.cell_model.specs.declared.ask.Reply.{Reply}
-use Rattle.mem_fabric.specs.Network.{Makes, Does, place_among, runs, moved, ticked}
+use Rattle.mem_fabric.specs.Network.{Makes, Does, place_among, runs, moved, ticked, cut}
 use Rattle.mem_fabric.specs.Sound.{network_of}
 use Rattle.mem_fabric.proofs.Acts.{drop_makes, drop_reply_makes, hand_does, hand_again_does, makes}
 use Rattle.mem_fabric.proofs.cluster.Cluster.act.Goals as goal
@@ -26,19 +26,20 @@ returns-in-Tick-clause-does c = makes c.args.self.now c.tick.new.self c.args.cho
     (rw c.in-Tick.is refl) (rw c.in-Tick.is refl) c.tick.ensures.made c.tick.ensures.network
 
 pub returns-in-Cut-clause-does : goal.returns-in-Cut-clause-does
-returns-in-Cut-clause-does c =
+returns-in-Cut-clause-does c = makes c.args.self.now c.cut_at.new.self c.args.chosen (cut (network_of c.args.self.now) c.in-Cut.node) c.cut_at.result
+    (rw c.in-Cut.is refl) (rw c.in-Cut.is refl) c.cut_at.ensures.made c.cut_at.ensures.network
+
+pub returns-in-Stop-clause-does : goal.returns-in-Stop-clause-does
+returns-in-Stop-clause-does c =
     let n = network_of c.args.self.now in
-    let both : (runs n c.args.chosen ≡ None) × (moved n Reply.Memory c.args.chosen ≡ ticked n 0) = elim c.in-Cut.is [
-      | inl cut ↦ (rw cut.1 refl, rw cut.1 refl)
+    let both : (runs n c.args.chosen ≡ None) × (moved n Reply.Memory c.args.chosen ≡ ticked n 0) = elim c.in-Stop.is [
+      | inl stop ↦ (rw stop.1 refl, rw stop.1 refl)
       | inr h ↦ elim h [
-        | inl stop ↦ (rw stop.1 refl, rw stop.1 refl)
+        | inl restart ↦ (rw restart.1 refl, rw restart.1 refl)
         | inr k ↦ elim k [
-          | inl restart ↦ (rw restart.1 refl, rw restart.1 refl)
-          | inr l ↦ elim l [
-            | inl pull ↦ (rw pull.3 refl, rw pull.3 refl)
-            | inr compact ↦ (rw compact.2 refl, rw compact.2 refl)
-          ]
+          | inl pull ↦ (rw pull.3 refl, rw pull.3 refl)
+          | inr compact ↦ (rw compact.2 refl, rw compact.2 refl)
         ]
       ]
     ] in
-    makes c.args.self.now c.tick-in-Cut.new.self c.args.chosen (ticked n 0) c.tick-in-Cut.result both.0 both.1 c.tick-in-Cut.ensures.made c.tick-in-Cut.ensures.network
+    makes c.args.self.now c.tick-in-Stop.new.self c.args.chosen (ticked n 0) c.tick-in-Stop.result both.0 both.1 c.tick-in-Stop.ensures.made c.tick-in-Stop.ensures.network

@@ -1,13 +1,12 @@
-use Rattle.std.proofs.Common.{◌≡◌, ◌<◌, ◌^◌, ◌+◌, ℕ, List, [], ◌∷◌, ◌++◌, Some, None, length, map, false, subst, arith, rules, sym, ap, refl, ◌∙◌}
+use Rattle.std.proofs.Common.{◌≡◌, ◌<◌, ◌+◌, List, [], ◌∷◌, ◌++◌, Some, length, subst, arith, sym, ap, ◌∙◌}
 use Rattle.mem_fabric.specs.declared.flight.Asked.{Asked}
 use Rattle.mem_fabric.specs.declared.flight.Replied.{Replied}
 use Rattle.mem_fabric.specs.declared.past.Past.{Past}
 use Rattle.mem_fabric.specs.declared.past.Past.TheViews as views
-use Rattle.mem_fabric.specs.Network.{Moved, after_move, after_send, quiet, taken, handed}
 use Rattle.mem_fabric.specs.Past.{calls_of}
 use Rattle.cell_model.specs.declared.ask.Reply.{Reply}
 use Rattle.req_frame.specs.declared.frame.Body.{Body}
-use Rattle.mem_fabric.specs.Sound.{State, IsSound, KeepsState, network_of, QuestionAt, RunsRequest}
+use Rattle.mem_fabric.specs.Sound.{State, KeepsState, QuestionAt, RunsRequest}
 use Rattle.mem_fabric.proofs.Sounds.{RunsSoundly, steps_answered, ran_as}
 use Rattle.mem_fabric.proofs.cluster.Cluster.answer.Goals as goal
 use Rattle.world_model.specs.declared.step.Event.{Event}

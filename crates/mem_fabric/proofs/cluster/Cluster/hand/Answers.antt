@@ -1,11 +1,10 @@
-use Rattle.std.proofs.Common.{◌≡◌, ◌<◌, ◌^◌, ◌+◌, ℕ, List, [], ◌∷◌, ◌++◌, Some, None, length, map, false, subst, arith, rules, sym, ap, refl, ◌∙◌}
-use Rattle.mem_fabric.specs.declared.flight.Asked.{Asked}
+use Rattle.std.proofs.Common.{◌≡◌, ◌<◌, ℕ, List, [], ◌∷◌, Some, length, subst, sym}
 use Rattle.mem_fabric.specs.declared.flight.Replied.{Replied}
 use Rattle.mem_fabric.specs.declared.past.Past.{Past}
 use Rattle.mem_fabric.specs.declared.past.Past.TheViews as views
-use Rattle.mem_fabric.specs.Network.{Moved, after_move, after_send, quiet, taken, handed}
+use Rattle.mem_fabric.specs.Network.{Moved, after_move, handed}
 use Rattle.mem_fabric.specs.Past.{calls_of}
-use Rattle.mem_fabric.specs.Sound.{State, IsSound, KeepsState, network_of}
+use Rattle.mem_fabric.specs.Sound.{State, KeepsState, network_of}
 use Rattle.mem_fabric.proofs.Sounds.{Hands, steps_handed}
 use Rattle.mem_fabric.proofs.cluster.Cluster.hand.Goals as goal
 use Rattle.world_model.specs.declared.step.Event.{Event}

@@ -1,15 +1,13 @@
-use Rattle.std.proofs.Common.{◌≡◌, ◌<◌, ◌^◌, ◌+◌, ℕ, List, [], ◌∷◌, ◌++◌, Some, None, length, map, false, subst, arith, rules, sym, ap, refl, ◌∙◌}
+use Rattle.std.proofs.Common.{◌≡◌, ◌<◌, List, [], ◌∷◌, Some, length, subst, sym}
 use Rattle.mem_fabric.specs.declared.flight.Asked.{Asked}
-use Rattle.mem_fabric.specs.declared.flight.Replied.{Replied}
 use Rattle.mem_fabric.specs.declared.past.Past.{Past}
 use Rattle.mem_fabric.specs.declared.past.Past.TheViews as views
-use Rattle.mem_fabric.specs.Network.{Moved, after_move, after_send, quiet, taken, handed}
+use Rattle.mem_fabric.specs.Network.{Moved, after_move, quiet, taken}
 use Rattle.mem_fabric.specs.Past.{calls_of}
-use Rattle.mem_fabric.specs.Sound.{State, IsSound, KeepsState, network_of}
+use Rattle.mem_fabric.specs.Sound.{State, KeepsState, network_of}
 use Rattle.mem_fabric.proofs.Sounds.{Steps, steps_left}
 use Rattle.mem_fabric.proofs.cluster.Cluster.leave_request.Goals as goal
 use Rattle.world_model.specs.declared.step.Event.{Event}
-use Rattle.world_model.specs.declared.step.Step.{Step}
 
 pub invariant_of-self : goal.invariant_of-self
 invariant_of-self c =

@@ -1,6 +1,5 @@
 use Rattle.std.proofs.Common.{subst}
-use Rattle.mem_fabric.specs.Past.{calls_of}
-use Rattle.mem_fabric.specs.Sound.{State, IsSound}
+use Rattle.mem_fabric.specs.Sound.{IsSound}
 use Rattle.mem_fabric.proofs.Playing.{none_waits}
 use Rattle.mem_fabric.proofs.cluster.Cluster.queued.Goals as goal
 

@@ -1,4 +1,4 @@
-use Rattle.std.proofs.Common.{◌≡◌, ◌<◌, length, sym, ap, ◌∙◌, subst, Some, None}
+use Rattle.std.proofs.Common.{◌≡◌, ◌<◌, length, sym, subst, Some}
 use Rattle.mem_fabric.specs.Asking.{Reads, AsksNothing}
 use Rattle.mem_fabric.specs.Network.{after_move, quiet, taken}
 use Rattle.mem_fabric.specs.Sound.{State, RunsRequest, network_of}

@@ -1,9 +1,9 @@
-use Rattle.std.proofs.Common.{◌≡◌, ◌<◌, ◌^◌, ◌+◌, [], ◌∷◌, Some, None, subst, arith, rules, sym, ap, refl, ◌∙◌}
+use Rattle.std.proofs.Common.{◌≡◌, [], ◌∷◌, Some, subst, arith}
 use Rattle.mem_fabric.specs.declared.past.Past.{Past}
 use Rattle.mem_fabric.specs.declared.past.Past.TheViews as views
 use Rattle.mem_fabric.specs.Past.{calls_of}
-use Rattle.mem_fabric.specs.Sound.{State, IsSound, KeepsState, network_of}
-use Rattle.mem_fabric.proofs.Sounds.{Steps, steps_now}
+use Rattle.mem_fabric.specs.Sound.{State, KeepsState}
+use Rattle.mem_fabric.proofs.Sounds.{steps_now}
 use Rattle.mem_fabric.proofs.cluster.Cluster.tick.Goals as goal
 use Rattle.world_model.specs.declared.step.Event.{Event}
 use Rattle.world_model.specs.declared.step.Step.{Step}

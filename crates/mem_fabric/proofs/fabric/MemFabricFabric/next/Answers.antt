@@ -1,6 +1,6 @@
 use Rattle.std.proofs.Common.{◌∙◌, ◌++◌, ◌∷◌, [], ap}
 use Rattle.mem_fabric.specs.Sound.{network_of}
-use Rattle.mem_fabric.proofs.Playing.{plays_next, falls_next, most_next, most_none, has_shape}
+use Rattle.mem_fabric.proofs.Playing.{plays_next, falls_next, most_next, has_shape}
 use Rattle.mem_fabric.proofs.fabric.MemFabricFabric.next.Goals as goal
 
 pub returns-clause-goes : goal.returns-clause-goes
