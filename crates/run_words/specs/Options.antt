@@ -4,7 +4,7 @@ use Rattle.std.specs.List.{list_all}
 use Rattle.std.specs.Str.{bytes_eq}
 use Rattle.std.specs.Str.Parse.{digits_value}
 use Rattle.run_words.specs.declared.options.Name.{Name}
-use Rattle.run_words.specs.declared.options.Name.TheVariants.{Nodes, Replicas, Partitions, Put, Get, Ids, Seed}
+use Rattle.run_words.specs.declared.options.Name.TheVariants.{Nodes, Replicas, Partitions, Put, Get, Delete, Ids, Seed}
 use Rattle.run_words.specs.declared.options.Given.{Given}
 
 -- a text, by its bytes
@@ -18,6 +18,7 @@ text_of Replicas = codes "replicas"
 text_of Partitions = codes "partitions"
 text_of Put = codes "put"
 text_of Get = codes "get"
+text_of Delete = codes "delete"
 text_of Ids = codes "ids"
 text_of Seed = codes "seed"
 

@@ -3,7 +3,7 @@ use Rattle.std.specs.Prelude.{ℕ, ◌^◌, List, [], ◌∷◌, Bool, ◌==◌,
 use Rattle.std.specs.Str.{bytes_eq}
 use Rattle.std.specs.Str.Parse.{digits_value}
 use Rattle.run_words.specs.declared.options.Name.{Name}
-use Rattle.run_words.specs.declared.options.Name.TheVariants.{Nodes, Replicas, Partitions, Put, Get, Ids, Seed}
+use Rattle.run_words.specs.declared.options.Name.TheVariants.{Nodes, Replicas, Partitions, Put, Get, Delete, Ids, Seed}
 use Rattle.run_words.specs.declared.options.Given.{Given}
 use Rattle.run_words.specs.Options.{Text, is_numeral}
 
@@ -24,9 +24,10 @@ name_at text =
     else (if bytes_eq text (codes "partitions") then Some Partitions
     else (if bytes_eq text (codes "put") then Some Put
     else (if bytes_eq text (codes "get") then Some Get
+    else (if bytes_eq text (codes "delete") then Some Delete
     else (if bytes_eq text (codes "ids") then Some Ids
     else (if bytes_eq text (codes "seed") then Some Seed
-    else None))))))
+    else None)))))))
 
 -- what stands behind `--`
 abbrev pub body_of : Text → Option Text

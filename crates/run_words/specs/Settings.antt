@@ -1,7 +1,7 @@
 -- What the words of a command line set.
 use Rattle.std.specs.Prelude.{◌≡◌, ◌≤◌, ◌+◌, ◌-◌, ◌/◌, ◌^◌, ℕ, List, ◌∷◌, Option, None, Some, min, codes}
 use Rattle.world_model.specs.declared.shape.Shape.{Shape}
-use Rattle.run_words.specs.declared.options.Name.TheVariants.{Nodes, Replicas, Partitions, Put, Get, Ids, Seed}
+use Rattle.run_words.specs.declared.options.Name.TheVariants.{Nodes, Replicas, Partitions, Put, Get, Delete, Ids, Seed}
 use Rattle.run_words.specs.declared.options.Given.{Given}
 use Rattle.run_words.specs.declared.settings.Settings.{Settings}
 use Rattle.run_words.specs.Options.{Text, AreOptions, AreOnce, number_for}
@@ -28,7 +28,7 @@ pub record GivesShape (options : List Given) (shape : Shape) : Type 0 where
   pub partitions : IsNumber (number_for options Partitions) 4 1 64 shape.partitions
   pub put : IsNumber (number_for options Put) (majority shape.replicas) 1 shape.replicas shape.put
   pub get : IsNumber (number_for options Get) (majority shape.replicas) 1 shape.replicas shape.get
-  pub delete : shape.delete ≡ majority shape.replicas
+  pub delete : IsNumber (number_for options Delete) (majority shape.replicas) 1 shape.replicas shape.delete
   pub chunk : shape.chunk ≡ 65536
   pub segment : shape.log.segment ≡ 1048576
   pub segments : shape.log.segments ≡ 8

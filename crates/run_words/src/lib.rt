@@ -8,7 +8,7 @@
 //! | `--nodes` | 1 | 9 | 3 |
 //! | `--replicas` | 1 | nodes | the less of 3 and nodes |
 //! | `--partitions` | 1 | 64 | 4 |
-//! | `--put`, `--get` | 1 | replicas | replicas / 2 rounded down, plus 1 |
+//! | `--put`, `--get`, `--delete` | 1 | replicas | replicas / 2 rounded down, plus 1 |
 //! | `--ids` | 0 | 2^64 - 1 | none |
 //! | `--seed` | 0 | 2^64 - 1 | 0 |
 //!

@@ -20,6 +20,7 @@ pub enum Name {
     Partitions,
     Put,
     Get,
+    Delete,
     Ids,
     Seed,
 }
@@ -34,6 +35,7 @@ impl Name {
             Name::Partitions => b"partitions".as_slice(),
             Name::Put => b"put".as_slice(),
             Name::Get => b"get".as_slice(),
+            Name::Delete => b"delete".as_slice(),
             Name::Ids => b"ids".as_slice(),
             Name::Seed => b"seed".as_slice(),
         }
@@ -52,6 +54,8 @@ impl Name {
             Some(Name::Put)
         } else if text == b"get".as_slice() {
             Some(Name::Get)
+        } else if text == b"delete".as_slice() {
+            Some(Name::Delete)
         } else if text == b"ids".as_slice() {
             Some(Name::Ids)
         } else if text == b"seed".as_slice() {

@@ -88,13 +88,14 @@ fn shape_of(options: &[Given]) -> Option<Shape>
     let partitions = number_in(options, Name::Partitions, 4, 1, 64)?;
     let put = need_in(options, Name::Put, replicas)?;
     let get = need_in(options, Name::Get, replicas)?;
+    let delete = need_in(options, Name::Delete, replicas)?;
     Some(Shape {
         nodes,
         replicas,
         partitions,
         put,
         get,
-        delete: majority(replicas),
+        delete,
         chunk: 65_536,
         log: LogNumbers {
             segment: 1_048_576,

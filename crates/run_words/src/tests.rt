@@ -14,43 +14,52 @@ fn read(alloc: Global, all: &[&str]) -> Result<Settings, WordsFault> {
     read_words(alloc, &words)
 }
 
-/// The numbers of a shape that options set: nodes, replicas, partitions, and the needs of a put and of a get.
-fn numbers(shape: &Shape) -> [u32; 5] {
+/// The numbers of a shape that options set: nodes, replicas, partitions, and the needs of a put, of a get and of a delete.
+fn numbers(shape: &Shape) -> [u32; 6] {
     [
         shape.nodes,
         shape.replicas,
         shape.partitions,
         shape.put,
         shape.get,
+        shape.delete,
     ]
 }
 
 #[test]
 fn shapes_are_read(rt: HostRuntime) -> Result<(), Fail> {
-    let table: [(&[&str], [u32; 5]); 12] = [
-        (&["run"], [3, 3, 4, 2, 2]),
-        (&["run", "--nodes", "1"], [1, 1, 4, 1, 1]),
-        (&["run", "--nodes=1"], [1, 1, 4, 1, 1]),
-        (&["run", "--nodes=2"], [2, 2, 4, 2, 2]),
-        (&["run", "--nodes", "9"], [9, 3, 4, 2, 2]),
-        (&["run", "--nodes", "001"], [1, 1, 4, 1, 1]),
-        (&["run", "--nodes=00000000000000000009"], [9, 3, 4, 2, 2]),
-        (&["run", "--put", "3", "--get", "1"], [3, 3, 4, 3, 1]),
+    let table: [(&[&str], [u32; 6]); 15] = [
+        (&["run"], [3, 3, 4, 2, 2, 2]),
+        (&["run", "--nodes", "1"], [1, 1, 4, 1, 1, 1]),
+        (&["run", "--nodes=1"], [1, 1, 4, 1, 1, 1]),
+        (&["run", "--nodes=2"], [2, 2, 4, 2, 2, 2]),
+        (&["run", "--nodes", "9"], [9, 3, 4, 2, 2, 2]),
+        (&["run", "--nodes", "001"], [1, 1, 4, 1, 1, 1]),
+        (&["run", "--nodes=00000000000000000009"], [9, 3, 4, 2, 2, 2]),
+        (&["run", "--put", "3", "--get", "1"], [3, 3, 4, 3, 1, 2]),
         (
             &["run", "--partitions=64", "--replicas", "1"],
-            [3, 1, 64, 1, 1],
+            [3, 1, 64, 1, 1, 1],
         ),
-        (&["run", "--replicas", "9", "--nodes", "9"], [9, 9, 4, 5, 5]),
-        (&["run", "--replicas=4", "--nodes=5"], [5, 4, 4, 3, 3]),
+        (
+            &["run", "--replicas", "9", "--nodes", "9"],
+            [9, 9, 4, 5, 5, 5],
+        ),
+        (&["run", "--replicas=4", "--nodes=5"], [5, 4, 4, 3, 3, 3]),
         (
             &["run", "--get=2", "--put=1", "--partitions", "1"],
-            [3, 3, 1, 1, 2],
+            [3, 3, 1, 1, 2, 2],
+        ),
+        (&["run", "--delete", "1"], [3, 3, 4, 2, 2, 1]),
+        (&["run", "--delete=03"], [3, 3, 4, 2, 2, 3]),
+        (
+            &["run", "--delete=9", "--replicas=9", "--nodes=9"],
+            [9, 9, 4, 5, 5, 9],
         ),
     ];
     for (words, wanted) in table {
         let settings = read(rt.alloc(), words)?;
         assert_eq!(rt; numbers(&settings.shape), wanted);
-        assert_eq!(rt; settings.shape.delete, wanted[1] / 2 + 1);
         assert_eq!(rt; settings.ids, None);
         assert_eq!(rt; settings.seed, 0);
     }
@@ -87,7 +96,7 @@ fn ids_and_seeds_are_read(rt: HostRuntime) -> Result<(), Fail> {
 
 #[test]
 fn words_outside_the_grammar_are_refused(rt: HostRuntime) -> Result<(), Fail> {
-    let table: [&[&str]; 42] = [
+    let table: [&[&str]; 45] = [
         &[],
         &["load"],
         &["Run"],
@@ -100,8 +109,6 @@ fn words_outside_the_grammar_are_refused(rt: HostRuntime) -> Result<(), Fail> {
         &["run", "-n", "1"],
         &["run", "--help"],
         &["run", "--version"],
-        &["run", "--delete", "1"],
-        &["run", "--delete=1"],
         &["run", "--node", "1"],
         &["run", "--Nodes", "1"],
         &["run", "nodes", "1"],
@@ -127,6 +134,11 @@ fn words_outside_the_grammar_are_refused(rt: HostRuntime) -> Result<(), Fail> {
         &["run", "--replicas", "0"],
         &["run", "--nodes", "1", "--put", "2"],
         &["run", "--get=0"],
+        &["run", "--delete", "0"],
+        &["run", "--delete=4"],
+        &["run", "--nodes", "1", "--delete", "2"],
+        &["run", "--delete=1", "--delete", "1"],
+        &["run", "--delete"],
         &["run", "--partitions", "65"],
         &["run", "--ids", "18446744073709551616"],
         &["run", "--seed", "99999999999999999999"],

@@ -1,5 +1,5 @@
 use Rattle.std.proofs.Common.{rules, ◌≡◌, sym, subst, ℕ, Some, None}
-use Rattle.run_words.specs.declared.options.Name.TheVariants.{Put, Get}
+use Rattle.run_words.specs.declared.options.Name.TheVariants.{Put, Get, Delete}
 use Rattle.run_words.specs.Options.{number_for}
 use Rattle.run_words.specs.Settings.{IsNumber, majority}
 use Rattle.run_words.proofs.WordLemmas.{some_is}
@@ -21,4 +21,13 @@ returns-in_err-get-clause-only c = λ shape given.
     let replicas : c.in_ok-replicas.replicas ≡ shape.replicas = some_is _ _ (c.in_ok-replicas.ensures.only shape.replicas (search rules)) in
     let need = subst (λ (r : ℕ). IsNumber (number_for options Get) (majority r) 1 r shape.get) (sym replicas) given.get in
     let bad : None ≡ Some shape.get = c.in_err-get.ensures.only shape.get need in
+    absurd cc
+
+pub returns-in_err-delete-clause-only : goal.returns-in_err-delete-clause-only
+returns-in_err-delete-clause-only c = λ shape given.
+    let options = c.args.options.now in
+    let nodes : c.in_ok-nodes.nodes ≡ shape.nodes = some_is _ _ (c.in_ok-nodes.ensures.only shape.nodes given.nodes) in
+    let replicas : c.in_ok-replicas.replicas ≡ shape.replicas = some_is _ _ (c.in_ok-replicas.ensures.only shape.replicas (search rules)) in
+    let need = subst (λ (r : ℕ). IsNumber (number_for options Delete) (majority r) 1 r shape.delete) (sym replicas) given.delete in
+    let bad : None ≡ Some shape.delete = c.in_err-delete.ensures.only shape.delete need in
     absurd cc
