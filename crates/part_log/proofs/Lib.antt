@@ -18,3 +18,5 @@ pub mod Visible
 pub mod Places
 pub mod Blanks
 pub mod Wholes
+pub mod Staying
+pub mod Meaning

@@ -50,7 +50,18 @@ in_part place (r ∷ part) p good (inr there) =
       good = rest.good;
     }
 
-in_segments : (manifest : Manifest) (infos : List SegmentInfo) (parts : List (List Record)) (c : List ℕ) (p : Placed) → All (IsLive manifest) (lives_of infos) → AllFit manifest.settings.segment infos → AllSized infos parts → AllFront manifest.settings.segment infos parts c
+-- these records stand in front of the segments, whatever is behind them
+abbrev pub AllHere : ℕ → List SegmentInfo → List (List Record) → List ℕ → Type 0
+AllHere segment [] parts bytes = Unit {0}
+AllHere segment (info ∷ infos) [] bytes = ⊥
+AllHere segment (info ∷ infos) (part ∷ parts) bytes = (range (place_of segment info.segment) info.used bytes ≡ laid part) × AllHere segment infos parts bytes
+
+pub here_from : (segment : ℕ) (infos : List SegmentInfo) (parts : List (List Record)) (c : List ℕ) → AllFront segment infos parts c → AllHere segment infos parts c
+here_from segment [] parts c fronts = tt
+here_from segment (info ∷ infos) [] c fronts = absurd fronts
+here_from segment (info ∷ infos) (part ∷ parts) c fronts = (fronts.0.front, here_from segment infos parts c fronts.1)
+
+pub in_segments : (manifest : Manifest) (infos : List SegmentInfo) (parts : List (List Record)) (c : List ℕ) (p : Placed) → All (IsLive manifest) (lives_of infos) → AllFit manifest.settings.segment infos → AllSized infos parts → AllHere manifest.settings.segment infos parts c
     → IsPlaced p (placed_in manifest.settings.segment infos parts) → IsVisible manifest.settings c p
 in_segments manifest [] parts c p each fit sized fronts there = absurd there
 in_segments manifest (info ∷ infos) [] c p each fit sized fronts there = absurd there
@@ -65,14 +76,14 @@ in_segments manifest (info ∷ infos) (part ∷ parts) c p each fit sized fronts
       offset = stands.offset;
       at = stands.at;
       fits = omega (arith, inside, fit.0);
-      here = ap (λ (k : ℕ). range k m c) stands.at ∙ sym (range-range (place_of manifest.settings.segment info.segment) info.used stands.offset m c inside) ∙ ap (range stands.offset m) fronts.0.front ∙ stands.here;
+      here = ap (λ (k : ℕ). range k m c) stands.at ∙ sym (range-range (place_of manifest.settings.segment info.segment) info.used stands.offset m c inside) ∙ ap (range stands.offset m) fronts.0 ∙ stands.here;
       good = stands.good;
     } in its)
     (λ (later : IsPlaced p (placed_in manifest.settings.segment infos parts)). in_segments manifest infos parts c p (λ k d lt. each (suc k) d (omega (arith, lt))) fit.1 sized.2 fronts.1 later)
     (placed_either p (placed_from (place_of manifest.settings.segment info.segment) part) (placed_in manifest.settings.segment infos parts) there)
 
 pub visible : (table : LogTable) (content : Content) (placed : List Placed) (p : Placed) → IsTable table → IsLog table content placed → IsPlaced p placed → IsVisible table.settings content.seen p
-visible table content placed p good log there = in_segments _ table.segments log.parts content.seen p good.manifest.each good.fit log.sized (log.shown content.seen content.sees).fronts (subst (λ (l : List Placed). IsPlaced p l) log.all there)
+visible table content placed p good log there = in_segments _ table.segments log.parts content.seen p good.manifest.each good.fit log.sized (here_from table.settings.segment table.segments log.parts content.seen (log.shown content.seen content.sees).fronts) (subst (λ (l : List Placed). IsPlaced p l) log.all there)
 
 -- the bytes from there on begin with it
 pub begins_there : (place left : ℕ) (bytes : List ℕ) (entry : Record) → length (record_text entry) ≤ left → range place (length (record_text entry)) bytes ≡ record_text entry → IsRecord entry → BeginsWith (range place left bytes) entry

@@ -187,6 +187,10 @@ pub record IsVisible (settings : LogSettings) (bytes : List ℕ) (p : Placed) : 
   pub here : range p.place (length (record_text p.entry)) bytes ≡ record_text p.entry
   pub good : IsRecord p.entry
 
+-- Each of these records can be read.
+abbrev pub AllVisible : LogSettings → List ℕ → List Placed → Type 0
+AllVisible settings bytes placed = (p : Placed) → IsPlaced p placed → IsVisible settings bytes p
+
 -- One of the log's records stands at this place.
 pub record HasRecordAt (table : LogTable) (content : Content) (place : ℕ) : Type 0 where
   pub placed : List Placed

@@ -8,7 +8,7 @@ ghost use Rattle.msg_format.specs.Records.{IsRecord, lsn_of, record_size};
 ghost use Rattle.part_log.specs.Records.{Placed, records_of};
 ghost use Rattle.part_log.specs.Segments.{ChangesIn, last_segment, last_used, with_more};
 ghost use Rattle.part_log.specs.Images.{KeepsLog, PutsLast};
-ghost use Rattle.part_log.specs.Log.{Follows, IsLog, grown, is_full, next_place, roomy_table, target_of};
+ghost use Rattle.part_log.specs.Log.{AllVisible, Follows, IsLog, IsTable, grown, is_full, next_place, roomy_table, target_of};
 
 use crate::fault::LogFault;
 use crate::log::PartLog;
@@ -42,6 +42,7 @@ impl<D: Disk> PartLog<D> {
             → ChangesBy (KeepsLog self.old.table.settings (target_of self.old.table size) (records_of placed) self.old.table.end) (D.content self.old.disk) (D.content self.new.disk) }
         ensures roomy { OnOk result (D.tells → (placed : List Placed) → IsLog self.old.table (D.content self.old.disk) placed → IsLog self.new.table (D.content self.new.disk) placed) }
         ensures outside { D.tells → ChangesIn self.old.table.settings.segment (target_of self.old.table size) (D.content self.old.disk).seen (D.content self.new.disk).seen }
+        ensures visible { D.tells → (placed : List Placed) → IsLog self.old.table (D.content self.old.disk) placed → AllVisible self.old.table.settings (D.content self.new.disk).seen placed }
         ensures table { OnOk result (self.new.table ≡ roomy_table self.old.table size self.new.table.slots) }
         ensures up { OnOk result (self.new.down ≡ false) }
 
@@ -70,6 +71,8 @@ impl<D: Disk> PartLog<D> {
         ensures put { IfOk result (λ place. D.tells → (placed : List Placed) → IsLog self.old.table (D.content self.old.disk) placed
             → IsLog self.new.table (D.content self.new.disk) (placed ++ record { entry = entry.now; place = place } ∷ [])) }
         ensures outside { D.tells → ChangesIn self.old.table.settings.segment (last_segment self.old.table.segments) (D.content self.old.disk).seen (D.content self.new.disk).seen }
+        ensures visible { D.tells → (placed : List Placed) → IsLog self.old.table (D.content self.old.disk) placed → AllVisible self.old.table.settings (D.content self.new.disk).seen placed }
+        ensures good { OnOk result (IsTable self.new.table) }
         ensures place { IfOk result (λ place. place ≡ next_place self.old.table) }
         ensures table { OnOk result (self.new.table ≡ grown self.old.table (record_size entry.now)) }
         ensures up { OnOk result (self.new.down ≡ false) }
@@ -106,6 +109,9 @@ impl<D: Disk> PartLog<D> {
         ensures put { IfOk result (λ place. D.tells → (placed : List Placed) → IsLog self.old.table (D.content self.old.disk) placed
             → IsLog self.new.table (D.content self.new.disk) (placed ++ record { entry = entry.now; place = place } ∷ [])) }
         ensures outside { D.tells → ChangesIn self.old.table.settings.segment (target_of self.old.table (record_size entry.now)) (D.content self.old.disk).seen (D.content self.new.disk).seen }
+        // Also after a failure each record from before can be read.
+        ensures visible { D.tells → (placed : List Placed) → IsLog self.old.table (D.content self.old.disk) placed → AllVisible self.old.table.settings (D.content self.new.disk).seen placed }
+        ensures good { OnOk result (IsTable self.new.table) }
         ensures place { IfOk result (λ place. place ≡ next_place (roomy_table self.old.table (record_size entry.now) self.new.table.slots)) }
         ensures table { OnOk result (self.new.table ≡ grown (roomy_table self.old.table (record_size entry.now) self.new.table.slots) (record_size entry.now)) }
 

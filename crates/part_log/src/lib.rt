@@ -4,6 +4,7 @@
 mod appending;
 mod blanking;
 mod fault;
+mod laws;
 mod log;
 mod opening;
 mod piece;
@@ -15,6 +16,7 @@ mod segment;
 mod table;
 
 pub use fault::{LogFault, OpenFault};
+pub use laws::log_laws;
 pub use log::PartLog;
 pub use log_manifest::LogSettings;
 pub use segment::{Found, SegmentInfo};

@@ -10,7 +10,7 @@ ghost use Rattle.log_manifest.specs.Manifests.{manifest_text};
 ghost use Rattle.part_log.specs.Records.{Placed, records_of};
 ghost use Rattle.part_log.specs.Segments.{place_of, ChangesIn};
 ghost use Rattle.part_log.specs.Images.{KeepsLog, OpensLog};
-ghost use Rattle.part_log.specs.Log.{AreInRange, IsLog, IsRolling, LogTable, first_table, manifest_of, is_packed, is_worn, least_free, rolled_table, takes_no_segment};
+ghost use Rattle.part_log.specs.Log.{AllVisible, AreInRange, IsLog, IsRolling, LogTable, first_table, manifest_of, is_packed, is_worn, least_free, rolled_table, takes_no_segment};
 
 use crate::fault::LogFault;
 use crate::log::PartLog;
@@ -87,6 +87,7 @@ impl<D: Disk> PartLog<D> {
             → ChangesBy (KeepsLog self.old.table.settings (least_free self.old.table) (records_of placed) self.old.table.end) (D.content self.old.disk) (D.content self.new.disk) }
         ensures rolled { OnOk result (D.tells → (placed : List Placed) → IsLog self.old.table (D.content self.old.disk) placed → IsLog self.new.table (D.content self.new.disk) placed) }
         ensures outside { D.tells → ChangesIn self.old.table.settings.segment (least_free self.old.table) (D.content self.old.disk).seen (D.content self.new.disk).seen }
+        ensures visible { D.tells → (placed : List Placed) → IsLog self.old.table (D.content self.old.disk) placed → AllVisible self.old.table.settings (D.content self.new.disk).seen placed }
         ensures table { OnOk result (self.new.table ≡ rolled_table self.old.table (least_free self.old.table) self.new.table.slots) }
         ensures up { OnOk result (self.new.down ≡ false) }
 

@@ -8,6 +8,7 @@ use Rattle.part_log.specs.Log.{LogTable, IsTable, IsLog, target_of, is_full, roo
 use Rattle.part_log.proofs.Room.{nothing_kept, room_there, put_there, changes_there, if_ok_map}
 use Rattle.part_log.proofs.Putting.{keeps_as_put, keeps_then_put}
 use Rattle.part_log.proofs.Segments.{writes_twice}
+use Rattle.part_log.proofs.Staying.{visible_there}
 use Rattle.part_log.proofs.log.PartLog.append.Goals as goal
 
 pub returns-then-self-clause-during : goal.returns-then-self-clause-during
@@ -97,3 +98,21 @@ returns-clause-outside g c =
     λ t. writes_twice table.settings.segment target old.seen mid.seen new.seen
     (subst (λ (n : ℕ). ChangesIn table.settings.segment (target_of table n) old.seen mid.seen) size_is (c.make_room.ensures.outside t))
     (changes_there table c.make_room.new.self.table c.make_room.new.self.table.slots (record_size c.args.entry.now) after mid.seen new.seen (c.put_last.ensures.outside t))
+
+pub returns-then-self-clause-visible : goal.returns-then-self-clause-visible
+returns-then-self-clause-visible g c =
+    let s = c.self.inside in
+    let table : LogTable = record { settings = s.settings; segments = s.segments.items; next_generation = s.next_generation; end = s.end; slots = s.slots } in
+    rw (← c.self.view_is) (λ t placed log. visible_there table c.self.invariant.0 (g.D.Disk.content s.disk) placed log)
+
+pub returns-then-is_full-clause-visible : goal.returns-then-is_full-clause-visible
+returns-then-is_full-clause-visible g c =
+    let s = c.self.inside in
+    let table : LogTable = record { settings = s.settings; segments = s.segments.items; next_generation = s.next_generation; end = s.end; slots = s.slots } in
+    rw (← c.self.view_is) (λ t placed log. visible_there table c.self.invariant.0 (g.D.Disk.content s.disk) placed log)
+
+pub returns-in_err-rest-clause-visible : goal.returns-in_err-rest-clause-visible
+returns-in_err-rest-clause-visible g c =
+    let s = c.self.inside in
+    let table : LogTable = record { settings = s.settings; segments = s.segments.items; next_generation = s.next_generation; end = s.end; slots = s.slots } in
+    rw (← c.self.view_is) (λ t placed log. visible_there table c.self.invariant.0 (g.D.Disk.content s.disk) placed log)

@@ -5,6 +5,7 @@ use Rattle.part_log.specs.Images.{KeepsLog}
 use Rattle.part_log.specs.Segments.{last_segment}
 use Rattle.part_log.specs.Log.{least_free, target_of}
 use Rattle.part_log.proofs.Room.{nothing_kept}
+use Rattle.part_log.proofs.Staying.{visible_there}
 use Rattle.part_log.proofs.log.PartLog.make_room.Goals as goal
 
 pub returns-then-fits-clause-during : goal.returns-then-fits-clause-during
@@ -17,3 +18,6 @@ returns-else-fits-clause-during g c = λ t placed log.
     let table = c.args.self.now.table in
     let is : target_of table c.args.size ≡ least_free table = ap (λ (b : Bool). if b then last_segment table.segments else least_free table) (sym c.fits.ensures.fits ∙ c.if-fits.false) in
     subst (λ (f : ℕ). ChangesBy (KeepsLog table.settings f (records_of placed) table.end) (g.D.Disk.content c.args.self.now.disk) (g.D.Disk.content c.add_segment.new.self.disk)) (sym is) (c.add_segment.ensures.during t placed log)
+
+pub returns-then-fits-clause-visible : goal.returns-then-fits-clause-visible
+returns-then-fits-clause-visible g c = λ t placed log. visible_there c.args.self.now.table c.fits.ensures.table (g.D.Disk.content c.args.self.now.disk) placed log

@@ -6,7 +6,8 @@ use Rattle.part_log.specs.declared.segment.SegmentInfo.{SegmentInfo}
 use Rattle.part_log.specs.Records.{Placed}
 use Rattle.part_log.specs.Segments.{place_of, last_segment, last_used, with_more}
 use Rattle.part_log.specs.Log.{LogState, LogTable, IsTable, IsLog, Follows, next_place}
-use Rattle.part_log.proofs.Putting.{gate_inside, gate_shut, put_outside, put_table, put_during, put_log}
+use Rattle.part_log.proofs.Staying.{visible_front}
+use Rattle.part_log.proofs.Putting.{size_of_rest, gate_inside, gate_shut, put_outside, put_table, put_during, put_log}
 use Rattle.part_log.proofs.log.PartLog.put_last.Goals as goal
 
 pub write_gated-requires-clause-place : goal.write_gated-requires-clause-place
@@ -108,3 +109,36 @@ returns-in-Ok-clause-put g c =
     (put_log table c.self.invariant.0 c.args.entry.now c.args.rest.now follows room (g.D.Disk.content s.disk) (g.D.Disk.content c.write_gated.new.disk) placed log (whole t) (opens t)
     (subst (λ (k : ℕ). get_or (g.D.Disk.content c.write_gated.new.disk).seen k 0 ≡ 79) place_is (c.in-Ok.ensures.opened t)) (c.in-Ok.ensures.only t))) in
     rw (← c.self.view_is) put
+
+pub returns-in-Ok-clause-visible : goal.returns-in-Ok-clause-visible
+returns-in-Ok-clause-visible g c =
+    let s = c.self.inside in
+    let table : LogTable = record { settings = s.settings; segments = s.segments.items; next_generation = s.next_generation; end = s.end; slots = s.slots } in
+    let follows = subst (λ (v : LogState g.row.D.Denot). Follows v.table c.args.entry.now c.args.rest.now) (sym c.self.view_is) c.requires.follows in
+    let room = subst (λ (v : LogState g.row.D.Denot). last_used v.table.segments + record_size c.args.entry.now + 1 ≤ v.table.settings.segment) (sym c.self.view_is) c.requires.room in
+    let place_is : c.next_place-place.result ≡ next_place table = c.next_place-place.ensures ∙ ap (λ (l : List SegmentInfo). place_of s.settings.segment (last_segment l) + last_used l) c.deref.ensures.value in
+    let fits : last_used s.segments.items + (length c.args.rest.now + 1) ≤ s.settings.segment = omega (arith, room, size_of_rest table c.self.invariant.0 c.args.entry.now c.args.rest.now follows room) in
+    rw (← c.self.view_is) (λ t placed log. visible_front table c.self.invariant.0 (g.D.Disk.content s.disk) placed log (length c.args.rest.now + 1) (g.D.Disk.content c.write_gated.new.disk).seen fits
+    (subst (λ (k : ℕ). Torn k (length c.args.rest.now + 1) (g.D.Disk.content s.disk).seen (g.D.Disk.content c.write_gated.new.disk).seen) place_is (c.write_gated.ensures.outside t)))
+
+pub returns-in-Err-clause-visible : goal.returns-in-Err-clause-visible
+returns-in-Err-clause-visible g c =
+    let s = c.self.inside in
+    let table : LogTable = record { settings = s.settings; segments = s.segments.items; next_generation = s.next_generation; end = s.end; slots = s.slots } in
+    let follows = subst (λ (v : LogState g.row.D.Denot). Follows v.table c.args.entry.now c.args.rest.now) (sym c.self.view_is) c.requires.follows in
+    let room = subst (λ (v : LogState g.row.D.Denot). last_used v.table.segments + record_size c.args.entry.now + 1 ≤ v.table.settings.segment) (sym c.self.view_is) c.requires.room in
+    let place_is : c.next_place-place.result ≡ next_place table = c.next_place-place.ensures ∙ ap (λ (l : List SegmentInfo). place_of s.settings.segment (last_segment l) + last_used l) c.deref.ensures.value in
+    let fits : last_used s.segments.items + (length c.args.rest.now + 1) ≤ s.settings.segment = omega (arith, room, size_of_rest table c.self.invariant.0 c.args.entry.now c.args.rest.now follows room) in
+    rw (← c.self.view_is) (λ t placed log. visible_front table c.self.invariant.0 (g.D.Disk.content s.disk) placed log (length c.args.rest.now + 1) (g.D.Disk.content c.write_gated.new.disk).seen fits
+    (subst (λ (k : ℕ). Torn k (length c.args.rest.now + 1) (g.D.Disk.content s.disk).seen (g.D.Disk.content c.write_gated.new.disk).seen) place_is (c.write_gated.ensures.outside t)))
+
+pub returns-in-Ok-clause-good : goal.returns-in-Ok-clause-good
+returns-in-Ok-clause-good g c =
+    let s = c.self.inside in
+    let table : LogTable = record { settings = s.settings; segments = s.segments.items; next_generation = s.next_generation; end = s.end; slots = s.slots } in
+    let follows = subst (λ (v : LogState g.row.D.Denot). Follows v.table c.args.entry.now c.args.rest.now) (sym c.self.view_is) c.requires.follows in
+    let room = subst (λ (v : LogState g.row.D.Denot). last_used v.table.segments + record_size c.args.entry.now + 1 ≤ v.table.settings.segment) (sym c.self.view_is) c.requires.room in
+    let below = subst (λ (v : LogState g.row.D.Denot). v.table.end < 2 ^ 62) (sym c.self.view_is) c.requires.below in
+    let grown_is : c.grow_last.new.segments.items ≡ with_more s.segments.items (record_size c.args.entry.now) = c.grow_last.ensures ∙ ap (λ (n : ℕ). with_more s.segments.items n) c.record_size.ensures in
+    subst (λ (l : List SegmentInfo). IsTable (record { settings = s.settings; segments = l; next_generation = s.next_generation; end = s.end + 1; slots = s.slots })) (sym grown_is)
+    (put_table table c.self.invariant.0 c.args.entry.now c.args.rest.now follows room below)

@@ -1,0 +1,8 @@
+use Rattle.part_log.proofs.Meaning.{one_log}
+use Rattle.part_log.proofs.laws.log_laws.Goals as goal
+
+pub returns-clause-records : goal.returns-clause-records
+returns-clause-records c = λ settings bytes xs ys m n one two. (one_log settings bytes xs ys m n one two).records
+
+pub returns-clause-end : goal.returns-clause-end
+returns-clause-end c = λ settings bytes xs ys m n one two. (one_log settings bytes xs ys m n one two).end
