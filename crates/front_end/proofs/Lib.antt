@@ -7,6 +7,9 @@ pub mod CarryLemmas
 pub mod KeepLemmas
 pub mod LineStepLemmas
 pub mod TagLemmas
+pub mod ChoiceLemmas
+pub mod DigitLemmas
+pub mod ScriptLemmas
 pub mod SpellingLemmas
 pub mod PieceLemmas
 pub mod LineLemmas

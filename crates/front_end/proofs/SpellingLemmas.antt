@@ -1,47 +1,18 @@
 -- What is read from a line is what the line spells, and the other way round.
-use Rattle.std.proofs.Common.{◌≡◌, ◌∙◌, ◌⊎◌, inl, inr, ℕ, ◌<◌, ◌&&◌, nat_eq, nat_lt, Bool, true, false, cond, codes, Option, Some, None, Result, Ok, Err, is_none, option_map, List, [], ◌∷◌, length, refl, sym, ap, subst, arith, true≢false}
+use Rattle.std.proofs.Common.{◌≡◌, ◌∙◌, inl, inr, ℕ, ◌<◌, ◌&&◌, ◌||◌, nat_eq, nat_lt, Bool, true, false, cond, codes, Option, Some, None, Ok, is_none, option_map, option_and_then, List, [], ◌∷◌, length, refl, sym, ap, subst, arith, true≢false}
 use Rattle.std.specs.Str.{bytes_eq}
 use Rattle.std.proofs.lemmas.Bool.Decides.{nat_tests}
-use Rattle.std.proofs.lemmas.Slice.Eq.{bytes_eq-Decides}
-use Rattle.hex.specs.Hex.{decode_of}
+use Rattle.hex.specs.Hex.{decode_of, encode_lower}
+use Rattle.blob_id.specs.Id.{IsId}
+use Rattle.world_model.specs.Pieces.{is_composite}
 use Rattle.front_end.specs.declared.tags.Tag.{Tag}
 use Rattle.front_end.specs.declared.script.Command.{Command}
-use Rattle.front_end.specs.declared.script.Command.TheVariants.{Skip, Put, Get, Wait, End}
-use Rattle.front_end.specs.Script.{longest_line, words_of, is_comment, is_tag, tag_number, is_put_at, tag_kind, is_new_tag, ok_value, bytes_of_digits, put_of, get_of, one_word, get_line, put_line, operation_of, command_of_words, command_of}
-use Rattle.front_end.specs.Spelling.{IsNothing, IsHex, IsNewTag, IsTagOfPut, SpellsByWords, Spells}
-
--- ---- tests and options
-
-some_is : {A : Type 0} (x y : A) → Some x ≡ Some y → x ≡ y
-some_is x y e = cc
-
-chosen : {A : Type 0} (b : Bool) (x y z : A) → cond b x y ≡ z → ((b ≡ true) × (x ≡ z)) ⊎ ((b ≡ false) × (y ≡ z))
-chosen true x y z e = inl (refl, e)
-chosen false x y z e = inr (refl, e)
-
-kept : {A : Type 0} (b : Bool) (x : Option A) (y : A) → cond b x None ≡ Some y → (b ≡ true) × (x ≡ Some y)
-kept true x y e = (refl, e)
-kept false x y e = absurd cc
-
-both : (a b : Bool) → (a && b) ≡ true → (a ≡ true) × (b ≡ true)
-both true true e = (refl, refl)
-both true false e = absurd (true≢false (sym e))
-both false b e = absurd (true≢false (sym e))
-
-nothing : {A : Type 0} (o : Option A) → is_none o ≡ true → o ≡ None
-nothing None e = refl
-nothing (Some x) e = absurd (true≢false (sym e))
-
-mapped : {A : Type 0} (f : A → Bool) (o : Option A) (b : Bool) → option_map f o ≡ Some b → (x : A) × (o ≡ Some x) × (f x ≡ b)
-mapped f None b e = absurd cc
-mapped f (Some x) b e = (x, refl, some_is (f x) b e)
-
-ok_is : {A E : Type 0} (r : Result A E) (x : A) → ok_value r ≡ Some x → r ≡ Ok x
-ok_is (Ok y) x e = ap Ok (some_is y x e)
-ok_is (Err d) x e = absurd cc
-
-same_text : (word text : List ℕ) → bytes_eq word text ≡ true → word ≡ text
-same_text word text e = (bytes_eq-Decides word text).0 e
+use Rattle.front_end.specs.declared.script.Command.TheVariants.{Skip, Put, Get, Delete, Wait, End}
+use Rattle.front_end.specs.declared.script.Target.{Target}
+use Rattle.front_end.specs.Script.{longest_line, words_of, is_comment, is_tag, tag_number, is_put_at, tag_kind, is_new_tag, ok_value, bytes_of_digits, put_of, tag_target, id_of_digits, id_target, behind_dollar, target_by, target_of, named_command, one_word, named_line, put_line, operation_of, command_of_words, command_of}
+use Rattle.front_end.specs.Spelling.{IsNothing, IsHex, IsNewTag, IsTagOfPut, SpellsTarget, SpellsByWords, Spells}
+use Rattle.front_end.proofs.ChoiceLemmas.{some_is, chosen, kept, both, nothing, mapped, ok_is, same_text}
+use Rattle.front_end.proofs.DigitLemmas.{id_from_digits, digits_of_id, no_dollar}
 
 -- ---- what is read is spelled so
 
@@ -82,29 +53,61 @@ put_takes tags word tag form digits c e =
     ∙ ap (λ (f : List ℕ). codes "put" ∷ tag ∷ f ∷ digits ∷ []) (same_text form (codes "hex") q.1) in
     subst (λ (x : Command). SpellsByWords tags x (word ∷ tag ∷ form ∷ digits ∷ [])) b.2 (digits, words, new_takes tags tag p.1, hex_takes digits b.0 b.1)
 
-get_of_takes : (tag of : List ℕ) (kind : Option Bool) (c : Command) → get_of tag of kind ≡ Some c → (kind ≡ Some true) × (Get tag of ≡ c)
-get_of_takes tag of None c e = absurd cc
-get_of_takes tag of (Some false) c e = absurd cc
-get_of_takes tag of (Some true) c e = (refl, some_is (Get tag of) c e)
+tag_takes : (tags : List Tag) (of : List ℕ) (kind : Option Bool) (t : Target) → tag_kind tags of ≡ kind → tag_target of kind ≡ Some t → SpellsTarget tags t (36 ∷ of)
+tag_takes tags of None t same e = absurd cc
+tag_takes tags of (Some false) t same e = absurd cc
+tag_takes tags of (Some true) t same e = subst (λ (x : Target). SpellsTarget tags x (36 ∷ of)) (some_is (Target.Tag of) t e) (refl, mapped (is_put_at tags) (tag_number tags of) true same)
 
-get_takes : (tags : List Tag) (word tag id : List ℕ) (c : Command) → get_line tags word tag id ≡ Some c → SpellsByWords tags c (word ∷ tag ∷ id ∷ [])
-get_takes tags word tag [] c e =
-    let k = kept (bytes_eq word (codes "get") && is_new_tag tags tag) None c e in
-    absurd cc
-get_takes tags word tag (b ∷ of) c e =
-    let k = kept (bytes_eq word (codes "get") && is_new_tag tags tag) (cond (nat_eq b 36) (get_of tag of (tag_kind tags of)) None) c e in
-    let p = both (bytes_eq word (codes "get")) (is_new_tag tags tag) k.0 in
-    let d = kept (nat_eq b 36) (get_of tag of (tag_kind tags of)) c k.1 in
-    let g = get_of_takes tag of (tag_kind tags of) c d.1 in
+id_takes : (tags : List Tag) (word : List ℕ) (read : Option (List ℕ)) (t : Target) → id_of_digits word ≡ read → option_and_then id_target read ≡ Some t → SpellsTarget tags t word
+id_takes tags word None t same e = absurd cc
+id_takes tags word (Some id) t same e = elim (chosen (is_composite id) None (Some (Target.Id id)) (Some t) e) [
+  | inl p ↦ absurd cc
+  | inr p ↦
+      let d = id_from_digits word id same in
+      subst (λ (x : Target). SpellsTarget tags x word) (some_is (Target.Id id) t p.1) (d.0, d.1, p.0)
+]
+
+dollar_takes : (word of : List ℕ) → behind_dollar word ≡ Some of → word ≡ 36 ∷ of
+dollar_takes [] of e = absurd cc
+dollar_takes (b ∷ more) of e =
+    let k = kept (nat_eq b 36) (Some more) of e in
     let first : b ≡ 36 = grind (arith, nat_tests) in
-    let words : word ∷ tag ∷ (b ∷ of) ∷ [] ≡ codes "get" ∷ tag ∷ (36 ∷ of) ∷ [] =
-    ap (λ (w : List ℕ). w ∷ tag ∷ (b ∷ of) ∷ []) (same_text word (codes "get") p.0) ∙ ap (λ (x : ℕ). codes "get" ∷ tag ∷ (x ∷ of) ∷ []) first in
-    subst (λ (x : Command). SpellsByWords tags x (word ∷ tag ∷ (b ∷ of) ∷ [])) g.1 (words, new_takes tags tag p.1, mapped (is_put_at tags) (tag_number tags of) true g.0)
+    ap (λ (x : ℕ). x ∷ more) first ∙ ap (λ (x : List ℕ). 36 ∷ x) (some_is more of k.1)
+
+target_takes : (tags : List Tag) (word : List ℕ) (t : Target) → target_of tags word ≡ Some t → SpellsTarget tags t word
+target_takes tags word t e = by (behind_dollar word) refl e
+  where
+    by : (behind : Option (List ℕ)) → behind_dollar word ≡ behind → target_by tags word behind ≡ Some t → SpellsTarget tags t word
+    by None same e = id_takes tags word (id_of_digits word) t refl e
+    by (Some of) same e = subst (SpellsTarget tags t) (sym (dollar_takes word of same)) (tag_takes tags of (tag_kind tags of) t refl e)
+
+target_there : (name : List ℕ) (delete : Bool) (target : Option Target) (c : Command) → option_map (named_command delete name) target ≡ Some c → (t : Target) × (target ≡ Some t) × (named_command delete name t ≡ c)
+target_there name delete None c e = absurd cc
+target_there name delete (Some t) c e = (t, refl, some_is (named_command delete name t) c e)
+
+either : (a b : Bool) → (a || b) ≡ true → b ≡ false → a ≡ true
+either true b e f = refl
+either false b e f = absurd (true≢false (sym e ∙ f))
+
+named_takes : (tags : List Tag) (word tag id : List ℕ) (c : Command) → named_line tags word tag id ≡ Some c → SpellsByWords tags c (word ∷ tag ∷ id ∷ [])
+named_takes tags word tag id c e =
+    let k = kept ((bytes_eq word (codes "get") || bytes_eq word (codes "del")) && is_new_tag tags tag) (option_map (named_command (bytes_eq word (codes "del")) tag) (target_of tags id)) c e in
+    let p = both (bytes_eq word (codes "get") || bytes_eq word (codes "del")) (is_new_tag tags tag) k.0 in
+    let t = target_there tag (bytes_eq word (codes "del")) (target_of tags id) c k.1 in
+    subst (λ (x : Command). SpellsByWords tags x (word ∷ tag ∷ id ∷ [])) t.2 (by (bytes_eq word (codes "del")) refl t.0 p.0 (new_takes tags tag p.1) (target_takes tags id t.0 t.1))
+  where
+    front : (text : List ℕ) → word ≡ text → word ∷ tag ∷ id ∷ [] ≡ text ∷ tag ∷ id ∷ []
+    front text same = ap (λ (w : List ℕ). w ∷ tag ∷ id ∷ []) same
+
+    by : (delete : Bool) → bytes_eq word (codes "del") ≡ delete → (t : Target) → (bytes_eq word (codes "get") || bytes_eq word (codes "del")) ≡ true → IsNewTag tags tag → SpellsTarget tags t id
+        → SpellsByWords tags (named_command delete tag t) (word ∷ tag ∷ id ∷ [])
+    by true same t some new target = (id, front (codes "del") (same_text word (codes "del") same), new, target)
+    by false same t some new target = (id, front (codes "get") (same_text word (codes "get") (either (bytes_eq word (codes "get")) (bytes_eq word (codes "del")) some same)), new, target)
 
 operation_takes : (tags : List Tag) (word : List ℕ) (more : List (List ℕ)) (c : Command) → operation_of tags word more ≡ Some c → SpellsByWords tags c (word ∷ more)
 operation_takes tags word [] c e = one_takes tags word c e
 operation_takes tags word (x ∷ []) c e = absurd cc
-operation_takes tags word (tag ∷ id ∷ []) c e = get_takes tags word tag id c e
+operation_takes tags word (tag ∷ id ∷ []) c e = named_takes tags word tag id c e
 operation_takes tags word (tag ∷ form ∷ digits ∷ []) c e = put_takes tags word tag form digits c e
 operation_takes tags word (x ∷ y ∷ z ∷ u ∷ more) c e = absurd cc
 
@@ -152,6 +155,24 @@ hex_again digits body s = elim s [
 kind_again : (tags : List Tag) (name : List ℕ) → IsTagOfPut tags name → tag_kind tags name ≡ Some true
 kind_again tags name s = ap (option_map (is_put_at tags)) s.1 ∙ ap Some s.2
 
+id_known : (id : List ℕ) → is_composite id ≡ false → id_target id ≡ Some (Target.Id id)
+id_known id whole = ap (λ (b : Bool). cond b None (Some (Target.Id id))) whole
+
+none_behind : (word id : List ℕ) → word ≡ encode_lower id → behind_dollar word ≡ None
+none_behind [] id spelled = refl
+none_behind (b ∷ more) id spelled = by (nat_eq b 36) refl
+  where
+    by : (t : Bool) → nat_eq b 36 ≡ t → cond t (Some more) None ≡ None
+    by true e = absurd (no_dollar b more id spelled (grind (arith, nat_tests)))
+    by false e = refl
+
+id_again : (tags : List Tag) (word id : List ℕ) → word ≡ encode_lower id → IsId id → is_composite id ≡ false → target_of tags word ≡ Some (Target.Id id)
+id_again tags word id spelled is whole = ap (target_by tags word) (none_behind word id spelled) ∙ ap (option_and_then id_target) (digits_of_id word id spelled is) ∙ id_known id whole
+
+target_again : (tags : List Tag) (t : Target) (word : List ℕ) → SpellsTarget tags t word → target_of tags word ≡ Some t
+target_again tags (Target.Tag of) word s = ap (target_of tags) s.0 ∙ ap (tag_target of) (kind_again tags of s.1)
+target_again tags (Target.Id id) word s = id_again tags word id s.0 s.1 s.2
+
 words_again : (tags : List Tag) (c : Command) (words : List (List ℕ)) → SpellsByWords tags c words → command_of_words tags words ≡ Some c
 words_again tags Skip words s = elim s [ inl p ↦ ap (command_of_words tags) p | inr p ↦ ap (command_of_words tags) p.2 ]
 words_again tags (Put tag body) words s =
@@ -159,9 +180,13 @@ words_again tags (Put tag body) words s =
     ∙ ap (λ (b : Bool). cond b (put_of tag (bytes_of_digits s.0)) None) (new_again tags tag s.2)
     ∙ ap (put_of tag) (hex_again s.0 body s.3)
 words_again tags (Get tag of) words s =
-    ap (command_of_words tags) s.0
-    ∙ ap (λ (b : Bool). cond b (get_of tag of (tag_kind tags of)) None) (new_again tags tag s.1)
-    ∙ ap (get_of tag of) (kind_again tags of s.2)
+    ap (command_of_words tags) s.1
+    ∙ ap (λ (b : Bool). cond b (option_map (named_command false tag) (target_of tags s.0)) None) (new_again tags tag s.2)
+    ∙ ap (option_map (named_command false tag)) (target_again tags of s.0 s.3)
+words_again tags (Delete tag of) words s =
+    ap (command_of_words tags) s.1
+    ∙ ap (λ (b : Bool). cond b (option_map (named_command true tag) (target_of tags s.0)) None) (new_again tags tag s.2)
+    ∙ ap (option_map (named_command true tag)) (target_again tags of s.0 s.3)
 words_again tags Wait words s = ap (command_of_words tags) s
 words_again tags End words s = ap (command_of_words tags) s
 

@@ -2,6 +2,7 @@
 use Rattle.std.specs.Prelude.{◌≡◌, ◌⊎◌, ℕ, ◌+◌, List, [], ◌∷◌, ◌++◌, length, Bool, true, false, Option, None, Some, ◌==◌, not, if◌then◌else◌, option_and_then, MatchBool}
 use Rattle.front_end.specs.declared.tags.Tag.{Tag}
 use Rattle.front_end.specs.declared.script.Command.TheVariants as command
+use Rattle.front_end.specs.declared.script.Target.{Target}
 use Rattle.quorum_op.specs.declared.outcome.Outcome.{Outcome}
 use Rattle.world_model.specs.declared.history.Begun.{Begun}
 use Rattle.world_model.specs.declared.history.HistoryMark.{HistoryMark}
@@ -42,6 +43,11 @@ answer_of entries n = answer_along None entries n
 abbrev pub named_by : List Tag → List Entry → List ℕ → Option (List ℕ)
 named_by tags entries tag = option_and_then (answer_of entries) (tag_number tags tag)
 
+-- the id that a line means behind these entries: that which the put with the tag was answered with, if it was, or the one that the line spells
+abbrev pub meant_by : List Tag → List Entry → Target → Option (List ℕ)
+meant_by tags entries (Target.Tag tag) = named_by tags entries tag
+meant_by tags entries (Target.Id id) = Some id
+
 -- whether an entry is what an operation drew or how it ended, and not an entry of a script line
 abbrev pub is_later : Entry → Bool
 is_later (Mark (Drew n id)) = true
@@ -55,7 +61,9 @@ IsOwn before line (Mark (Wait t)) = (line.command ≡ Some command.Wait) × (t �
 IsOwn before line (Mark (Begin n (Begun.Put file body ttl ctype meta))) =
     (tag : List ℕ) × (line.command ≡ Some (command.Put tag body)) × (n ≡ length line.tags + 1) × (file ≡ []) × (ttl ≡ 0) × (ctype ≡ []) × (meta ≡ [])
 IsOwn before line (Mark (Begin n (Begun.Get id range file))) =
-    (tag : List ℕ) × (of : List ℕ) × (line.command ≡ Some (command.Get tag of)) × (n ≡ length line.tags + 1) × (id ≡ named_by line.tags before of) × (range ≡ None) × (file ≡ [])
+    (tag : List ℕ) × (of : Target) × (line.command ≡ Some (command.Get tag of)) × (n ≡ length line.tags + 1) × (id ≡ meant_by line.tags before of) × (range ≡ None) × (file ≡ [])
+IsOwn before line (Mark (Begin n (Begun.Delete id))) =
+    (tag : List ℕ) × (of : Target) × (line.command ≡ Some (command.Delete tag of)) × (n ≡ length line.tags + 1) × (id ≡ meant_by line.tags before of)
 IsOwn before line _ = ⊥
 
 -- The entries follow the script: each is that of the next line, but for what was drawn and ended between them.

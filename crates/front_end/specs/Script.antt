@@ -1,11 +1,14 @@
 -- The script: its lines, the words of a line, and what they ask for.
-use Rattle.std.specs.Prelude.{◌≡◌, ◌≢◌, ◌⊎◌, ℕ, ◌+◌, ◌-◌, List, [], ◌∷◌, ◌++◌, length, slice_get, Bool, true, false, not, ◌&&◌, ◌||◌, ◌==◌, nat_le, nat_lt, if◌then◌else◌, Option, None, Some, is_none, option_map, Result, Ok, Err, filter, codes}
+use Rattle.std.specs.Prelude.{◌≡◌, ◌≢◌, ◌⊎◌, ℕ, ◌+◌, ◌-◌, List, [], ◌∷◌, ◌++◌, length, slice_get, Bool, true, false, not, ◌&&◌, ◌||◌, ◌==◌, nat_le, nat_lt, if◌then◌else◌, Option, None, Some, is_none, option_map, option_and_then, Result, Ok, Err, filter, codes}
 use Rattle.std.specs.List.{slice_split, list_all}
 use Rattle.std.specs.Str.{bytes_eq}
-use Rattle.hex.specs.Hex.{decode_of}
+use Rattle.hex.specs.Hex.{decode_of, encode_lower}
+use Rattle.blob_id.specs.Id.{id_fault}
+use Rattle.world_model.specs.Pieces.{is_composite}
 use Rattle.front_end.specs.declared.tags.Tag.{Tag}
 use Rattle.front_end.specs.declared.script.Command.{Command}
-use Rattle.front_end.specs.declared.script.Command.TheVariants.{Skip, Put, Get, Wait, End}
+use Rattle.front_end.specs.declared.script.Command.TheVariants.{Skip, Put, Get, Delete, Wait, End}
+use Rattle.front_end.specs.declared.script.Target.{Target}
 
 -- the bytes that a line has at most, without its end
 abbrev pub longest_line : ℕ
@@ -81,31 +84,59 @@ abbrev pub put_of : List ℕ → Option (List ℕ) → Option Command
 put_of tag None = None
 put_of tag (Some body) = Some (Put tag body)
 
-abbrev pub get_of : List ℕ → List ℕ → Option Bool → Option Command
-get_of tag of None = None
-get_of tag of (Some false) = None
-get_of tag of (Some true) = Some (Get tag of)
+-- `$TAG`, where the tag is a put's
+abbrev pub tag_target : List ℕ → Option Bool → Option Target
+tag_target of None = None
+tag_target of (Some false) = None
+tag_target of (Some true) = Some (Target.Tag of)
 
--- `$TAG` of an earlier put line
-abbrev pub get_by_tag : List Tag → List ℕ → List ℕ → Option Command
-get_by_tag tags tag [] = None
-get_by_tag tags tag (c ∷ of) = if c == 36 then get_of tag of (tag_kind tags of) else None
+-- these bytes, where they are an id and the text is its digits in lower case
+abbrev pub id_in_lower : List ℕ → List ℕ → Option (List ℕ)
+id_in_lower text bytes = if is_none (id_fault bytes) && bytes_eq (encode_lower bytes) text then Some bytes else None
+
+-- the id that 40 digits spell
+abbrev pub id_of_digits : List ℕ → Option (List ℕ)
+id_of_digits text = option_and_then (id_in_lower text) (ok_value (decode_of text))
+
+-- an id that may be named: not of a composite blob, as long as there are none
+abbrev pub id_target : List ℕ → Option Target
+id_target id = if is_composite id then None else Some (Target.Id id)
+
+-- what stands behind the `$` that a word begins with
+abbrev pub behind_dollar : List ℕ → Option (List ℕ)
+behind_dollar [] = None
+behind_dollar (c ∷ of) = if c == 36 then Some of else None
+
+abbrev pub target_by : List Tag → List ℕ → Option (List ℕ) → Option Target
+target_by tags word (Some of) = tag_target of (tag_kind tags of)
+target_by tags word None = option_and_then id_target (id_of_digits word)
+
+-- `$TAG` of an earlier put line, or the 40 digits of an id
+abbrev pub target_of : List Tag → List ℕ → Option Target
+target_of tags word = target_by tags word (behind_dollar word)
 
 abbrev pub one_word : List ℕ → Option Command
 one_word word = if bytes_eq word (codes "wait") then Some Wait else (if bytes_eq word (codes "end") then Some End else None)
 
-abbrev pub get_line : List Tag → List ℕ → List ℕ → List ℕ → Option Command
-get_line tags word tag id = if bytes_eq word (codes "get") && is_new_tag tags tag then get_by_tag tags tag id else None
+-- a delete, or else a get
+abbrev pub named_command : Bool → List ℕ → Target → Command
+named_command true tag of = Delete tag of
+named_command false tag of = Get tag of
+
+abbrev pub named_line : List Tag → List ℕ → List ℕ → List ℕ → Option Command
+named_line tags word tag id =
+    if (bytes_eq word (codes "get") || bytes_eq word (codes "del")) && is_new_tag tags tag then option_map (named_command (bytes_eq word (codes "del")) tag) (target_of tags id)
+    else None
 
 abbrev pub put_line : List Tag → List ℕ → List ℕ → List ℕ → List ℕ → Option Command
 put_line tags word tag form digits =
     if (bytes_eq word (codes "put") && bytes_eq form (codes "hex")) && is_new_tag tags tag then put_of tag (bytes_of_digits digits) else None
 
--- `wait`, `end`, `get TAG $TAG` or `put TAG hex HEX`
+-- `wait`, `end`, `get TAG ID`, `del TAG ID` or `put TAG hex HEX`
 abbrev pub operation_of : List Tag → List ℕ → List (List ℕ) → Option Command
 operation_of tags word [] = one_word word
 operation_of tags word (tag ∷ []) = None
-operation_of tags word (tag ∷ id ∷ []) = get_line tags word tag id
+operation_of tags word (tag ∷ id ∷ []) = named_line tags word tag id
 operation_of tags word (tag ∷ form ∷ digits ∷ []) = put_line tags word tag form digits
 operation_of tags word (a ∷ b ∷ c ∷ d ∷ more) = None
 
@@ -123,6 +154,7 @@ with_tag tags None = tags
 with_tag tags (Some Skip) = tags
 with_tag tags (Some (Put tag body)) = tags ++ record { name = tag; is_put = true } ∷ []
 with_tag tags (Some (Get tag of)) = tags ++ record { name = tag; is_put = false } ∷ []
+with_tag tags (Some (Delete tag of)) = tags ++ record { name = tag; is_put = false } ∷ []
 with_tag tags (Some Wait) = tags
 with_tag tags (Some End) = tags
 
@@ -142,6 +174,7 @@ asked_by number tags None = record { number = number; tags = tags; command = Non
 asked_by number tags (Some Skip) = []
 asked_by number tags (Some (Put tag body)) = record { number = number; tags = tags; command = Some (Put tag body) } ∷ []
 asked_by number tags (Some (Get tag of)) = record { number = number; tags = tags; command = Some (Get tag of) } ∷ []
+asked_by number tags (Some (Delete tag of)) = record { number = number; tags = tags; command = Some (Delete tag of) } ∷ []
 asked_by number tags (Some Wait) = record { number = number; tags = tags; command = Some Wait } ∷ []
 asked_by number tags (Some End) = []
 

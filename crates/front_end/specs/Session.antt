@@ -7,7 +7,7 @@ use Rattle.world_model.specs.declared.history.Begun.{Begun}
 use Rattle.world_model.specs.declared.history.HistoryMark.{HistoryMark}
 use Rattle.world_model.specs.declared.history.HistoryMark.TheVariants.{Begin, Drew, End, Wait}
 use Rattle.world_model.specs.declared.step.Called.{Called}
-use Rattle.world_model.specs.Pieces.{is_simple}
+use Rattle.world_model.specs.Pieces.{is_composite, is_simple}
 use Rattle.router_core.specs.Stands.{Stands, is_idle}
 use Rattle.router_core.specs.Ties.{Ties}
 use Rattle.router_core.specs.Fits.{RouterView}
@@ -17,6 +17,7 @@ use Rattle.front_end.specs.declared.history.Entry.{Entry}
 use Rattle.front_end.specs.declared.history.Entry.TheVariants.{Mark, Bad}
 use Rattle.front_end.specs.History.{DrawsNext}
 use Rattle.front_end.specs.declared.script.Command.TheVariants as command
+use Rattle.front_end.specs.declared.script.Target.{Target}
 use Rattle.front_end.specs.Script.{command_of}
 use Rattle.front_end.specs.Past.{marks_of, answer_of, EndsWhileWaiting}
 use Rattle.front_end.specs.Transcript.{entry_line, transcript_of}
@@ -165,6 +166,14 @@ put_of body = Begun.Put [] body 0 [] []
 abbrev pub get_of : Option (List ℕ) → Begun
 get_of id = Begun.Get id None []
 
+abbrev pub delete_of : Option (List ℕ) → Begun
+delete_of id = Begun.Delete id
+
+-- what a line names is not the id of a composite blob
+abbrev pub IsNotComposite : Target → Type 0
+IsNotComposite (Target.Tag tag) = Unit {0}
+IsNotComposite (Target.Id id) = is_composite id ≡ false
+
 -- An id is drawn for an operation that has begun, and its blob is put.
 pub record Stores (partitions number : ℕ) (body : List ℕ) (old new : Session) (before now : List HistoryMark → Type 0) (words_before words_now : Option (ℕ → ℕ)) (old_out new_out : List ℕ) : Type 0 where
   pub id : List ℕ
@@ -186,8 +195,11 @@ AsksPut tags line name body = command_of tags line ≡ Some (command.Put name bo
 abbrev pub AsksWait : List Tag → List ℕ → Type 0
 AsksWait tags line = command_of tags line ≡ Some command.Wait
 
-abbrev pub AsksGet : List Tag → List ℕ → List ℕ → List ℕ → Type 0
+abbrev pub AsksGet : List Tag → List ℕ → List ℕ → Target → Type 0
 AsksGet tags line name of = command_of tags line ≡ Some (command.Get name of)
+
+abbrev pub AsksDelete : List Tag → List ℕ → List ℕ → Target → Type 0
+AsksDelete tags line name of = command_of tags line ≡ Some (command.Delete name of)
 
 -- The lines were carried out, and no end stands but while the script waited.
 pub record StandsAt (partitions : ℕ) (lines : List (List ℕ)) (s : State) (tie : List HistoryMark → Type 0) (first now : Option (ℕ → ℕ)) : Type 0 where

@@ -1,9 +1,12 @@
 -- Which lines spell a command, said by the command.
-use Rattle.std.specs.Prelude.{◌≡◌, ◌⊎◌, ℕ, ◌<◌, ◌≤◌, List, [], ◌∷◌, length, true, None, Some, Ok, codes}
-use Rattle.hex.specs.Hex.{decode_of}
+use Rattle.std.specs.Prelude.{◌≡◌, ◌⊎◌, ℕ, ◌<◌, ◌≤◌, List, [], ◌∷◌, length, true, false, None, Some, Ok, codes}
+use Rattle.hex.specs.Hex.{decode_of, encode_lower}
+use Rattle.blob_id.specs.Id.{IsId}
+use Rattle.world_model.specs.Pieces.{is_composite}
 use Rattle.front_end.specs.declared.tags.Tag.{Tag}
 use Rattle.front_end.specs.declared.script.Command.{Command}
-use Rattle.front_end.specs.declared.script.Command.TheVariants.{Skip, Put, Get, Wait, End}
+use Rattle.front_end.specs.declared.script.Command.TheVariants.{Skip, Put, Get, Delete, Wait, End}
+use Rattle.front_end.specs.declared.script.Target.{Target}
 use Rattle.front_end.specs.Script.{longest_line, words_of, is_tag, tag_number, is_put_at}
 
 -- no words, or a first word that begins with `#`
@@ -22,11 +25,17 @@ IsNewTag tags name = (is_tag name ≡ true) × (tag_number tags name ≡ None)
 abbrev pub IsTagOfPut : List Tag → List ℕ → Type 0
 IsTagOfPut tags name = (n : ℕ) × (tag_number tags name ≡ Some n) × (is_put_at tags n ≡ true)
 
--- `put TAG hex HEX`, `get TAG $TAG`, `wait`, `end`, or nothing
+-- `$TAG` of a put line before, or the 40 digits of an id, in lower case. An id of a composite blob is none that a line may name.
+abbrev pub SpellsTarget : List Tag → Target → List ℕ → Type 0
+SpellsTarget tags (Target.Tag of) word = (word ≡ 36 ∷ of) × IsTagOfPut tags of
+SpellsTarget tags (Target.Id id) word = (word ≡ encode_lower id) × IsId id × (is_composite id ≡ false)
+
+-- `put TAG hex HEX`, `get TAG ID`, `del TAG ID`, `wait`, `end`, or nothing
 abbrev pub SpellsByWords : List Tag → Command → List (List ℕ) → Type 0
 SpellsByWords tags Skip words = IsNothing words
 SpellsByWords tags (Put tag body) words = (digits : List ℕ) × (words ≡ codes "put" ∷ tag ∷ codes "hex" ∷ digits ∷ []) × IsNewTag tags tag × IsHex digits body
-SpellsByWords tags (Get tag of) words = (words ≡ codes "get" ∷ tag ∷ (36 ∷ of) ∷ []) × IsNewTag tags tag × IsTagOfPut tags of
+SpellsByWords tags (Get tag of) words = (id : List ℕ) × (words ≡ codes "get" ∷ tag ∷ id ∷ []) × IsNewTag tags tag × SpellsTarget tags of id
+SpellsByWords tags (Delete tag of) words = (id : List ℕ) × (words ≡ codes "del" ∷ tag ∷ id ∷ []) × IsNewTag tags tag × SpellsTarget tags of id
 SpellsByWords tags Wait words = words ≡ codes "wait" ∷ []
 SpellsByWords tags End words = words ≡ codes "end" ∷ []
 

@@ -14,7 +14,7 @@ pub use history::Entry;
 pub use lab::run_lab;
 pub use lines::{LineReader, Next, Stop};
 pub use run::Ending;
-pub use script::{Command, read_line};
+pub use script::{Command, Target, read_line};
 pub use session::Session;
 pub use tags::{Tag, Tags};
 pub use transcript::{write_entry, write_outcome};

@@ -1,16 +1,18 @@
 //! The script: one command in each line.
 
-ghost use Rattle.std.specs.Prelude.{◌≡◌, IfOk, IfSome, Ok, Some, map};
+ghost use Rattle.std.specs.Prelude.{◌≡◌, IfOk, IfSome, Ok, Some, map, option_and_then};
 ghost use Rattle.std.specs.Str.{bytes_eq};
 ghost use Rattle.std.specs.List.{list_all};
+ghost use Rattle.std.specs.Option.{option_copied};
 ghost use Rattle.front_end.specs.declared.script.Command.{Command as Asks};
-ghost use Rattle.front_end.specs.Script.{is_blank, words_of, is_comment, is_letter, is_tag_byte, is_tag, tag_kind, is_new_tag, bytes_of_digits, get_by_tag, one_word, get_line, put_line, operation_of, command_of_words, command_of};
+ghost use Rattle.front_end.specs.Script.{is_blank, words_of, is_comment, is_letter, is_tag_byte, is_tag, tag_kind, is_new_tag, bytes_of_digits, tag_target, id_of_digits, id_target, behind_dollar, target_of, named_command, one_word, named_line, put_line, operation_of, command_of_words, command_of};
 ghost use Rattle.front_end.specs.Spelling.{Spells};
 
 use crate::tags::Tags;
-use blob_id::{Bytes, Memory};
+use blob_id::{BlobId, Bytes, Kind, Memory};
 use hex::FromHexError;
 use std::alloc::{AllocError, Global};
+use std::str;
 
 /// What a script line asks for.
 #[derive(Debug, Drop)]
@@ -19,12 +21,21 @@ pub enum Command {
     Skip,
     /// Stores the body, under a tag that no line before has.
     Put { tag: Bytes, body: Bytes },
-    /// Gets the id that the put with the other tag was answered with.
-    Get { tag: Bytes, of: Bytes },
+    Get { tag: Bytes, of: Target },
+    Delete { tag: Bytes, of: Target },
     /// Waits until nothing is open.
     Wait,
     /// Ends the script.
     End,
+}
+
+/// What names the blob of an operation.
+#[derive(Debug, Drop)]
+pub enum Target {
+    /// The id that the put with this tag was answered with.
+    Tag(Bytes),
+    /// An id of 40 digits, of any kind but a composite one: composite blobs aren't built.
+    Id(BlobId),
 }
 
 /// The bytes that a line has at most, without its end.
@@ -84,7 +95,7 @@ fn read_operation(
     match rest {
         [] => Ok(read_one_word(word)),
         [_] => Ok(None),
-        [tag, id] => read_get(alloc, word, tag, id, tags),
+        [tag, id] => read_named(alloc, word, tag, id, tags),
         [tag, form, digits] => read_put(alloc, word, tag, form, digits, tags),
         [_, _, _, _, ..] => Ok(None),
     }
@@ -127,37 +138,85 @@ fn read_put(
     }
 }
 
-fn read_get(
+/// Reads a line of an operation whose blob is named.
+fn read_named(
     alloc: Global,
     word: &[u8],
     tag: &[u8],
     id: &[u8],
     tags: &Tags,
 ) -> Result<Option<Command>, Memory>
-    ensures { IfOk result (λ read. read ≡ get_line tags.now word.now tag.now id.now) }
+    ensures { IfOk result (λ read. read ≡ named_line tags.now word.now tag.now id.now) }
 {
-    if !is_same(word, b"get") {
+    let is_delete = is_same(word, b"del");
+    if !(is_same(word, b"get") || is_delete) {
         return Ok(None);
     }
     if !is_new_tag(tags, tag) {
         return Ok(None);
     }
-    read_get_id(alloc, tag, id, tags)
+    match read_target(alloc, id, tags)? {
+        Some(of) => {
+            let tag = Bytes::copy_of(alloc, tag)?;
+            Ok(Some(named(is_delete, tag, of)))
+        }
+        None => Ok(None),
+    }
 }
 
-fn read_get_id(alloc: Global, tag: &[u8], id: &[u8], tags: &Tags) -> Result<Option<Command>, Memory>
-    ensures { IfOk result (λ read. read ≡ get_by_tag tags.now tag.now id.now) }
+fn named(is_delete: bool, tag: Bytes, of: Target) -> Command
+    ensures { result ≡ named_command is_delete tag of }
 {
-    match id {
-        [b'$', of @ ..] => match kind_of(tags, of) {
-            Some(true) => {
-                let tag = Bytes::copy_of(alloc, tag)?;
-                let of = Bytes::copy_of(alloc, of)?;
-                Ok(Some(Command::Get { tag, of }))
-            }
-            _ => Ok(None),
-        },
+    if is_delete {
+        Command::Delete { tag, of }
+    } else {
+        Command::Get { tag, of }
+    }
+}
+
+/// What a word names: `$TAG` of an earlier put line, or an id.
+fn read_target(alloc: Global, word: &[u8], tags: &Tags) -> Result<Option<Target>, Memory>
+    ensures { IfOk result (λ read. read ≡ target_of tags.now word.now) }
+{
+    let Some(of) = behind_dollar(word) else {
+        return Ok(read_id_target(word));
+    };
+    match kind_of(tags, of) {
+        Some(true) => {
+            let of = Bytes::copy_of(alloc, of)?;
+            Ok(Some(Target::Tag(of)))
+        }
         _ => Ok(None),
+    }
+}
+
+/// What stands behind the `$` that a word begins with.
+fn behind_dollar(word: &[u8]) -> Option<&[u8]>
+    ensures { option_copied result ≡ behind_dollar word.now }
+{
+    match word {
+        [b'$', of @ ..] => Some(of),
+        _ => None,
+    }
+}
+
+fn read_id_target(word: &[u8]) -> Option<Target>
+    ensures { result ≡ option_and_then id_target (id_of_digits word.now) }
+{
+    let id = read_id(word)?;
+    match id.kind() {
+        Kind::Composite => None,
+        Kind::Simple | Kind::Chunk => Some(Target::Id(id)),
+    }
+}
+
+/// The id that 40 digits spell, in lower case.
+fn read_id(digits: &[u8]) -> Option<BlobId>
+    ensures { result ≡ id_of_digits digits.now }
+{
+    match str::from_utf8(digits) {
+        Ok(text) => BlobId::parse_hex(text).ok(),
+        Err(_) => None,
     }
 }
 

@@ -17,11 +17,11 @@ ghost use Rattle.front_end.specs.Outline.{outline_begun, outline_entry};
 ghost use Rattle.front_end.specs.Script.{command_of, tag_number};
 ghost use Rattle.router_core.specs.Stands.{Stands, is_idle};
 ghost use Rattle.front_end.specs.Transcript.{entry_line};
-ghost use Rattle.front_end.specs.Past.{answer_in, named_by};
-ghost use Rattle.front_end.specs.Session.{State, Keeps, Becomes, StandsAt, HasGoneOn, IsReady, IsSimpleAnswer, Finishes, Starts, Stores, entries_of, ended_by, begun_by, refused_by, answer_at, answered, AsksPut, AsksGet, AsksWait, CarriesOut, get_of, nothing_yet, put_of, ties_of};
+ghost use Rattle.front_end.specs.Past.{answer_in, meant_by, named_by};
+ghost use Rattle.front_end.specs.Session.{State, Keeps, Becomes, StandsAt, HasGoneOn, IsReady, IsSimpleAnswer, Finishes, Starts, Stores, entries_of, ended_by, begun_by, refused_by, answer_at, answered, AsksPut, AsksGet, AsksDelete, AsksWait, CarriesOut, IsNotComposite, delete_of, get_of, nothing_yet, put_of, ties_of};
 
 use crate::history::{Entry, outline_of};
-use crate::script::{Command, read_line};
+use crate::script::{Command, Target, read_line};
 use crate::tags::Tags;
 use crate::transcript::write_entry;
 use blob_id::{BlobId, Bytes, Kind, Listed, Memory};
@@ -292,12 +292,13 @@ impl Session {
         &mut self,
         alloc: Global,
         name: Bytes,
-        of: Bytes,
+        of: Target,
         fabric: &mut F,
         out: &mut Vec<u8>,
     ) -> Result<(), Memory>
         requires count { length self.old.tags < 2 ^ 31 - 1 }
         requires fresh { tag_number self.old.tags name ≡ None }
+        requires whole { IsNotComposite of }
         requires ready { IsReady self.old }
         requires open { F.opened fabric.old ≡ Some self.old.router.shape }
         ensures lines { OnOk result (self.new.lines ≡ self.old.lines) }
@@ -312,10 +313,42 @@ impl Session {
         ensures falls { F.falls fabric.old fabric.new }
     {
         self.finish(alloc, fabric, out)?;
-        let id = self.named(of.as_slice());
+        let id = self.meant(&of);
         let begun = begun_get(alloc, &id);
         let _number = self.begin(alloc, name, false, begun, out)?;
         self.router.get(alloc, id, fabric)?;
+        Ok(())
+    }
+
+    fn delete<F: Fabric>(
+        &mut self,
+        alloc: Global,
+        name: Bytes,
+        of: Target,
+        fabric: &mut F,
+        out: &mut Vec<u8>,
+    ) -> Result<(), Memory>
+        requires count { length self.old.tags < 2 ^ 31 - 1 }
+        requires fresh { tag_number self.old.tags name ≡ None }
+        requires whole { IsNotComposite of }
+        requires ready { IsReady self.old }
+        requires open { F.opened fabric.old ≡ Some self.old.router.shape }
+        ensures lines { OnOk result (self.new.lines ≡ self.old.lines) }
+        ensures tags { OnOk result (length self.new.tags ≡ length self.old.tags + 1) }
+        ensures carried { OnOk result ((line : List ℕ) (words : Option (ℕ → ℕ)) → AsksDelete self.old.tags line name of
+            → CarriesOut self.old.router.shape.partitions line self.old self.new (ties_of self.old.router (F.told fabric.old)) (ties_of self.new.router (F.told fabric.new)) words words out.old.items out.new.items) }
+        ensures ready { OnOk result (IsReady self.new) }
+        ensures shape { self.new.router.shape ≡ self.old.router.shape }
+        ensures opened { F.opened fabric.new ≡ F.opened fabric.old }
+        ensures run { (cluster : Shape) (place : List ℕ) → KeepsRun (F.told fabric.old) (F.image fabric.old cluster place) (F.told fabric.new) (F.image fabric.new cluster place) }
+        ensures goes { OnOk result (F.goes fabric.old fabric.new) }
+        ensures falls { F.falls fabric.old fabric.new }
+    {
+        self.finish(alloc, fabric, out)?;
+        let id = self.meant(&of);
+        let begun = begun_delete(&id);
+        let _number = self.begin(alloc, name, false, begun, out)?;
+        self.router.delete(alloc, id, fabric)?;
         Ok(())
     }
 
@@ -374,10 +407,24 @@ impl Session {
             Some(Command::Skip) => {}
             Some(Command::Put { tag, body }) => self.put(alloc, tag, body, random, fabric, out)?,
             Some(Command::Get { tag, of }) => self.get(alloc, tag, of, fabric, out)?,
+            Some(Command::Delete { tag, of }) => self.delete(alloc, tag, of, fabric, out)?,
             Some(Command::Wait) => self.wait(alloc, fabric, out)?,
             Some(Command::End) => return Ok(false),
         }
         Ok(true)
+    }
+
+    /// The id that a line means.
+    fn meant(&self, of: &Target) -> Option<BlobId>
+        requires ready { IsReady self.now }
+        requires whole { IsNotComposite of.now }
+        ensures meant { (state : State) → Keeps self.now state → result ≡ meant_by state.tags (entries_of state) of.now }
+        ensures whole { IfSome result (λ id. is_composite id ≡ false) }
+    {
+        match of {
+            Target::Tag(name) => self.named(name.as_slice()),
+            Target::Id(id) => Some(*id),
+        }
     }
 
     /// The id that `$TAG` names: the one that its put was answered with.
@@ -402,6 +449,12 @@ fn begun_get(alloc: Global, id: &Option<BlobId>) -> Begun
         range: None,
         file: Bytes::new(alloc),
     }
+}
+
+fn begun_delete(id: &Option<BlobId>) -> Begun
+    ensures { result ≡ delete_of id.now }
+{
+    Begun::Delete { id: *id }
 }
 
 /// The answer of an operation, numbered from 1.

@@ -92,10 +92,11 @@ fn a_lost_request_to_the_only_replica_is_told(rt: HostRuntime) -> Result<(), Fai
 #[test]
 fn words_outside_the_grammar_are_told(rt: HostRuntime) -> Result<(), Fail> {
     let alloc = rt.alloc();
-    let table: [&[&str]; 4] = [
+    let table: [&[&str]; 5] = [
         &[],
         &["run", "--nodes", "10"],
         &["run", "--put", "4"],
+        &["run", "--delete", "4"],
         &["run", "--nodes", "1", "--nodes", "1"],
     ];
     for words in table {
@@ -115,6 +116,222 @@ fn a_bad_line_is_told_and_the_script_goes_on(rt: HostRuntime) -> Result<(), Fail
     let rest =
         b"a ok 0100000000000000000040008000000000000000\nline 3 bad\nb begun\nline 5 bad\nb ok 1 61\n";
     assert!(rt; is_begun_and(output.bytes(), rest));
+    Ok(())
+}
+
+/// Whether a run of a good script over one node gives this transcript.
+fn gives(alloc: Global, script: &[u8], transcript: &[u8]) -> Result<bool, Fail> {
+    let (status, output) = run(alloc, &["run", "--nodes", "1"], script, Vec::new(alloc))?;
+    Ok(status == 0 && output.bytes() == transcript)
+}
+
+#[test]
+fn an_id_of_digits_is_got(rt: HostRuntime) -> Result<(), Fail> {
+    let alloc = rt.alloc();
+    // Of a simple blob that nothing put, of a chunk, and of a partition that isn't there.
+    let table: [(&[u8], &[u8]); 3] = [
+        (
+            b"get b 0100000000000000000040008000000000000009\nwait\n",
+            b"b begun\nb notfound\n",
+        ),
+        (
+            b"get b 0102000000000000000040008000000000000009\nwait\n",
+            b"b begun\nb notwhole\n",
+        ),
+        (
+            b"get b 0100000900000000000040008000000000000009\nwait\n",
+            b"b begun\nb nopartition\n",
+        ),
+    ];
+    for (script, transcript) in table {
+        assert!(rt; gives(alloc, script, transcript)?);
+    }
+    // Of what a put stored.
+    let script = b"put a hex 6161\nwait\nget b 0100000000000000000040008000000000000000\nwait\n";
+    let (status, output) = run(alloc, &["run", "--nodes=1"], script, Vec::new(alloc))?;
+    assert_eq!(rt; status, 0);
+    let rest = b"a ok 0100000000000000000040008000000000000000\nb begun\nb ok 2 6161\n";
+    assert!(rt; is_begun_and(output.bytes(), rest));
+    Ok(())
+}
+
+/// Five requests that are run and whose replies are handed over, and then so many that are lost.
+fn five_and_lost(alloc: Global, lost: usize) -> Result<Vec<Move>, Fail> {
+    let mut moves = Vec::new(alloc);
+    for _ in 0..5u32 {
+        moves.push(Move::Run(0))?;
+        moves.push(Move::Hand(0))?;
+    }
+    for _ in 0..lost {
+        moves.push(Move::Drop(0))?;
+    }
+    Ok(moves)
+}
+
+const PUT_DELETE_GET: &[u8] = b"put a hex 6161\nwait\ndel d $a\nwait\nget b $a\nwait\n";
+
+#[test]
+fn what_was_deleted_is_not_got(rt: HostRuntime) -> Result<(), Fail> {
+    let alloc = rt.alloc();
+    // The delete for node 3 and the get for node 1 are lost.
+    let moves = five_and_lost(alloc, 2)?;
+    let words = ["run", "--partitions", "1"];
+    let (status, output) = run(alloc, &words, PUT_DELETE_GET, moves)?;
+    assert_eq!(rt; status, 0);
+    let rest =
+        b"a ok 0100000000000000000040008000000000000000\nd begun\nd ok\nb begun\nb deleted\n";
+    assert!(rt; is_begun_and(output.bytes(), rest));
+    Ok(())
+}
+
+/// The reply to a get is handed over, stays in flight behind a delete, and is handed over again while the next get is live.
+#[test]
+fn a_reply_of_an_earlier_get_is_not_heard(rt: HostRuntime) -> Result<(), Fail> {
+    let alloc = rt.alloc();
+    let moves = vec![in alloc;
+        Move::Run(0),
+        Move::Hand(0),
+        Move::Run(0),
+        Move::HandAgain(0),
+        Move::Run(0),
+        Move::Hand(1),
+        Move::Hand(0),
+        Move::Run(0),
+        Move::Hand(0),
+    ]?;
+    let words = ["run", "--nodes=1", "--partitions=1"];
+    let script = b"put a hex 6161\nwait\nget b $a\nwait\ndel d $a\nwait\nget c $a\nwait\n";
+    let (status, output) = run(alloc, &words, script, moves)?;
+    assert_eq!(rt; status, 0);
+    let rest =
+        b"a ok 0100000000000000000040008000000000000000\nb begun\nb ok 2 6161\nd begun\nd ok\nc begun\nc deleted\n";
+    assert!(rt; is_begun_and(output.bytes(), rest));
+    Ok(())
+}
+
+#[test]
+fn a_delete_without_its_quorum_is_told(rt: HostRuntime) -> Result<(), Fail> {
+    let alloc = rt.alloc();
+    // The delete for node 3 is lost.
+    let moves = five_and_lost(alloc, 1)?;
+    let words = ["run", "--partitions", "1", "--delete=3"];
+    let (status, output) = run(alloc, &words, PUT_DELETE_GET, moves)?;
+    assert_eq!(rt; status, 0);
+    let rest =
+        b"a ok 0100000000000000000040008000000000000000\nd begun\nd unavailable 0100000000000000000040008000000000000000 3:timeout\nb begun\nb deleted\n";
+    assert!(rt; is_begun_and(output.bytes(), rest));
+    Ok(())
+}
+
+#[test]
+fn a_delete_of_no_id_is_told(rt: HostRuntime) -> Result<(), Fail> {
+    let alloc = rt.alloc();
+    let moves = vec![in alloc; Move::Drop(0)]?;
+    let words = ["run", "--nodes=1", "--partitions=1"];
+    let script = b"put a hex 6161\nwait\ndel d $a\n";
+    let (status, output) = run(alloc, &words, script, moves)?;
+    assert_eq!(rt; status, 0);
+    let rest =
+        b"a unavailable 0100000000000000000040008000000000000000 1:timeout\nd begun\nd noid\n";
+    assert!(rt; is_begun_and(output.bytes(), rest));
+    Ok(())
+}
+
+#[test]
+fn an_id_of_digits_is_deleted(rt: HostRuntime) -> Result<(), Fail> {
+    let alloc = rt.alloc();
+    // Of a blob that nothing put, of a chunk, of a partition that isn't there, and of a chunk there.
+    let table: [(&[u8], &[u8]); 4] = [
+        (
+            b"del d 0100000300000000000040008000000000000009\nget b 0100000300000000000040008000000000000009\n",
+            b"d begun\nd ok\nb begun\nb deleted\n",
+        ),
+        (
+            b"del d 0102000000000000000040008000000000000009\n",
+            b"d begun\nd notwhole\n",
+        ),
+        (
+            b"del d 0100000400000000000040008000000000000009\n",
+            b"d begun\nd nopartition\n",
+        ),
+        (
+            b"del d 0102000900000000000040008000000000000009\n",
+            b"d begun\nd notwhole\n",
+        ),
+    ];
+    for (script, transcript) in table {
+        assert!(rt; gives(alloc, script, transcript)?);
+    }
+    Ok(())
+}
+
+#[test]
+fn lines_that_name_no_blob_are_bad(rt: HostRuntime) -> Result<(), Fail> {
+    let alloc = rt.alloc();
+    let table: [&[u8]; 16] = [
+        // A digit too few, one too many, one in upper case, one that is none, and a byte that is no character.
+        b"get b 010000000000000000004000800000000000000\n",
+        b"get b 01000000000000000000400080000000000000000\n",
+        b"get b 010000000000000000004000800000000000000A\n",
+        b"get b 010000000000000000004000800000000000000g\n",
+        b"get b 010000000000000000004000800000000000000\xff\n",
+        // Another version of ids, a kind that isn't there, two UUIDs of another version and variant.
+        b"del b 0200000000000000000040008000000000000000\n",
+        b"del b 0103000000000000000040008000000000000000\n",
+        b"del b 0100000000000000000010008000000000000000\n",
+        b"del b 0100000000000000000040000000000000000000\n",
+        // An id of a composite blob.
+        b"del b 0101000000000000000040008000000000000000\n",
+        b"get b 0101000000000000000040008000000000000000\n",
+        // A tag that no put has.
+        b"del b $a\n",
+        b"del b $\n",
+        // Too few words and too many.
+        b"del b\n",
+        b"del b 0100000000000000000040008000000000000000 x\n",
+        b"delete b 0100000000000000000040008000000000000000\n",
+    ];
+    for script in table {
+        let (status, output) = run(alloc, &["run", "--nodes=1"], script, Vec::new(alloc))?;
+        assert_eq!(rt; status, 2);
+        assert_eq!(rt; output.bytes(), b"line 1 bad\n".as_slice());
+    }
+    Ok(())
+}
+
+#[test]
+fn nothing_behind_the_end_line_is_run(rt: HostRuntime) -> Result<(), Fail> {
+    let alloc = rt.alloc();
+    let script = b"put a hex 6161\nend\nget b $a\nwait now\n";
+    let (status, output) = run(alloc, &["run", "--nodes=1"], script, Vec::new(alloc))?;
+    assert_eq!(rt; status, 0);
+    let rest = b"a ok 0100000000000000000040008000000000000000\n";
+    assert!(rt; is_begun_and(output.bytes(), rest));
+    Ok(())
+}
+
+/// Adds the line of a put of so many bytes, all 0.
+fn add_put(script: &mut Vec<u8>, tag: u8, length: usize) -> Result<(), Fail> {
+    script.extend_from_slice(b"put ")?;
+    script.push(tag)?;
+    script.extend_from_slice(b" hex ")?;
+    for _ in 0..length {
+        script.extend_from_slice(b"00")?;
+    }
+    script.push(b'\n')?;
+    Ok(())
+}
+
+#[test]
+fn a_put_that_is_too_long_is_told(rt: HostRuntime) -> Result<(), Fail> {
+    let alloc = rt.alloc();
+    let mut script = Vec::new(alloc);
+    add_put(&mut script, b'a', 65_537)?;
+    add_put(&mut script, b'b', 65_536)?;
+    script.extend_from_slice(b"get c $a\n")?;
+    let transcript =
+        b"a begun\na toolarge 65537\nb begun\nb drew 0100000100000000000040008000000000000000\nb ok 0100000100000000000040008000000000000000\nc begun\nc noid\n";
+    assert!(rt; gives(alloc, script.as_slice(), transcript)?);
     Ok(())
 }
 

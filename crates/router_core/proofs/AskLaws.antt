@@ -1,40 +1,36 @@
--- What a router keeps of the operation under way goes on by a request.
-use Rattle.std.proofs.Common.{◌≡◌, ℕ, zero, suc, ◌+◌, ◌*◌, ◌/◌, ◌%◌, ◌^◌, ◌<◌, ◌≤◌, ◌==◌, Bool, true, false, ◌&&◌, cond, List, [], ◌∷◌, ◌++◌, length, Option, Some, None, refl, sym, ap, ◌∙◌, subst, inl, inr, arith}
+-- What a request of an operation under way is against the record.
+use Rattle.std.proofs.Common.{◌≡◌, ℕ, zero, suc, ◌+◌, ◌*◌, ◌/◌, ◌%◌, ◌^◌, ◌<◌, ◌==◌, Bool, true, false, ◌&&◌, cond, List, ◌∷◌, Option, Some, None, refl, sym, ap, ◌∙◌, subst, inl, inr, arith}
 use Rattle.std.proofs.lemmas.Bool.{cases_lt}
 use Rattle.std.specs.Option.{is_some}
 use Rattle.std.proofs.lemmas.Nat.{div-mul-add, div-add-mod', mul-le}
-use Rattle.blob_id.specs.declared.id.BlobId.{BlobId}
+use Rattle.blob_id.specs.Id.{partition_of}
 use Rattle.quorum_op.specs.Counts.{or_else}
 use Rattle.req_frame.specs.declared.frame.Body.{Body}
 use Rattle.req_frame.specs.declared.frame.Frame.{Frame}
-use Rattle.req_frame.specs.Reading.{frame_of}
-use Rattle.world_model.specs.declared.history.Begun.{Begun}
-use Rattle.world_model.specs.declared.shape.Shape.{Shape}
-use Rattle.world_model.specs.declared.history.HistoryMark.{HistoryMark}
-use Rattle.world_model.specs.declared.step.Called.{Called}
-use Rattle.world_model.specs.declared.step.Step.{Step}
-use Rattle.world_model.specs.Fabric.{Refused, Sent, Tells}
-use Rattle.world_model.specs.Lists.{first_below}
-use Rattle.world_model.specs.Notes.{Aim, Entry, Piece, aim_of, aims_at, ask_as, asking_of, clock_of, events_in, fits, id_of, is_of, kind_of, operation_of}
-use Rattle.world_model.specs.Record.{Item, Top, Aimed, Took, Record}
-use Rattle.world_model.specs.Router.{IsKept, MaySendFor}
-use Rattle.world_model.specs.Rules.{Rules}
-use Rattle.world_model.specs.Shape.{IsShape, node_of, replica_of}
-use Rattle.world_model.specs.World.{same_id}
 use Rattle.world_model.specs.declared.asking.Asking.{Asking}
+use Rattle.world_model.specs.declared.shape.Shape.{Shape}
+use Rattle.world_model.specs.Lists.{Has, first_below}
+use Rattle.world_model.specs.Notes
+use Rattle.world_model.specs.Notes.{Aim, Asked, Entry, Piece, aim_of, aims_at, ask_as, asked, clock_of, events_in, fits, is_of, operation_of}
+use Rattle.world_model.specs.Record.{Item, Top, Aimed, Record}
+use Rattle.world_model.specs.Router.{MaySendFor}
+use Rattle.world_model.specs.Shape.{IsShape, node_of, replica_of}
 use Rattle.world_model.proofs.CellLaws.{number_true, same_id_self, same_number}
 use Rattle.world_model.proofs.NoteLaws.{decoded_frame}
-use Rattle.router_core.specs.declared.live.Live.{Live}
-use Rattle.live_piece.specs.declared.waiting.Waiting.{Waiting}
-use Rattle.router_core.specs.Fits.{FitsLive, IsRequest}
-use Rattle.live_piece.specs.Piece.{OwnsPiece, PieceView, SendsEntry}
-use Rattle.router_core.specs.Requests.{asked_one, next_correlation, next_entry, next_frame, numbered}
+use Rattle.req_frame.specs.Reading.{frame_of}
+use Rattle.operation.specs.declared.sending.Errand.{Errand}
+use Rattle.operation.specs.declared.sending.Purpose.{Purpose}
+use Rattle.operation.specs.declared.sending.Sending.{Sending}
+use Rattle.operation.specs.Calls
+use Rattle.operation.specs.Calls.{Call, asked_frame}
+use Rattle.operation.specs.Pieces.{asking_of, is_for}
+use Rattle.put_op.specs.Puts.{Draw, stored_body}
+use Rattle.op_table.specs.Piece.{SendsEntry}
+use Rattle.op_table.specs.Tied.{IsRequest}
+use Rattle.router_core.specs.Jobs.{Job, Puts, Gets, Deletes, HasDrawnId, IsForPiece, IsServed, WasGiven, begun_as, body_for, errand_for, id_of, piece_for, plan_for, put_task, target_for}
+use Rattle.router_core.specs.Requests.{correlation_for, entry_for, node_for}
 use Rattle.router_core.specs.Stages.{simple_rules, IsUnderWay}
-use Rattle.router_core.specs.Stands.{Asks, OwnsAt, piece_for, piece_of}
-use Rattle.router_core.specs.Ties.{Ties}
-use Rattle.router_core.proofs.StageLaws.{Sendable, aimed_now, aims, may_get, may_put, refused, sends}
-use Rattle.live_piece.proofs.StepLaws.{owns_stays}
-use Rattle.router_core.proofs.TieLaws.{items_refused, items_sent, tie_call, tie_items}
+use Rattle.router_core.proofs.StageLaws.{Sendable, aimed_now, may_delete, may_get, may_put}
 
 -- ---- the replica of a node
 
@@ -76,33 +72,9 @@ not_node shape partition j k l m = go (node_of shape partition j == node_of shap
         let q : node_of shape partition j ≡ node_of shape partition k = number_true _ _ e in
         absurd (rests_apart shape.nodes (partition + j) (partition + k) (omega (arith, l)) (omega (arith, m)) (omega (arith, q)))
 
-replica_at : (shape : Shape) (partition k : ℕ) → IsShape shape → k < shape.replicas → replica_of shape partition (node_of shape partition k) ≡ Some k
+pub replica_at : (shape : Shape) (partition k : ℕ) → IsShape shape → k < shape.replicas → replica_of shape partition (node_of shape partition k) ≡ Some k
 replica_at shape partition k is l =
     least_below shape.replicas k (λ j. node_of shape partition j == node_of shape partition k) l (same_number (node_of shape partition k)) (λ j b. not_node shape partition j k b (omega (arith, l, is.replicas)))
-
--- ---- the request to the next replica
-
--- what an operation asks stays behind more items
-asks_later : (shape : Shape) (items : Item) (r : Record) (operation : ℕ) (id : BlobId) (body : Body) (begun : Begun) → Asks shape r operation id body begun → Asks shape (items ∷ r) operation id body begun
-asks_later shape item r operation id (Body.Put other blob) begun a = (a.0, a.1, inr a.2)
-asks_later shape item r operation id (Body.Get other) begun a = a
-asks_later shape item r operation id (Body.Peek other) begun a = a
-asks_later shape item r operation id (Body.Delete other at) begun a = a
-asks_later shape item r operation id (Body.Fetch other) begun a = a
-asks_later shape item r operation id (Body.Answer reply) begun a = a
-
--- the request is allowed
-may_ask : (shape : Shape) (r : Record) (operation : ℕ) (id : BlobId) (body : Body) (begun : Begun) (then : Record) (next : ℕ) → IsUnderWay (simple_rules shape) r operation begun then next → Asks shape r operation id body begun
-    → MaySendFor shape r operation (record { part = Top; attempt = 0 }) body
-may_ask shape r operation id (Body.Put other blob) begun then next u a =
-    subst (λ (x : BlobId). MaySendFor shape r operation (record { part = Top; attempt = 0 }) (Body.Put x blob)) (sym a.0) (may_put (simple_rules shape) r operation begun then next id blob u a.2)
-may_ask shape r operation id (Body.Get other) begun then next u a =
-    subst (λ (x : BlobId). MaySendFor shape r operation (record { part = Top; attempt = 0 }) (Body.Get x)) (sym a.0)
-    (may_get (simple_rules shape) r operation id then next (subst (λ (b : Begun). IsUnderWay (simple_rules shape) r operation b then next) a.1 u) (inl a.2) a.3)
-may_ask shape r operation id (Body.Peek other) begun then next u a = absurd a
-may_ask shape r operation id (Body.Delete other at) begun then next u a = absurd a
-may_ask shape r operation id (Body.Fetch other) begun then next u a = absurd a
-may_ask shape r operation id (Body.Answer reply) begun then next u a = absurd a
 
 both_true : (a b c : Bool) → a ≡ true → b ≡ true → c ≡ true → (a && (b && c)) ≡ true
 both_true true true true a b c = refl
@@ -110,175 +82,129 @@ both_true true true false a b c = absurd cc
 both_true true false z a b c = absurd cc
 both_true false y z a b c = absurd cc
 
+-- ---- a request to a replica
+
+-- what is drawn stays drawn
+pub drawn_later : (item : Item) (r : Record) (operation moment : ℕ) (job : Job) → HasDrawnId r operation moment job → HasDrawnId (item ∷ r) operation moment job
+drawn_later item r operation moment (Puts id body) h = inr h
+drawn_later item r operation moment (Gets id) h = h
+drawn_later item r operation moment (Deletes id) h = h
+
+abbrev top_aim : Aim
+top_aim = record { part = Top; attempt = 0 }
+
+-- the request is allowed
+may_ask : (shape : Shape) (r : Record) (operation : ℕ) (job : Job) (then : Record) (next : ℕ) → IsUnderWay (simple_rules shape) r operation (begun_as job) then next → HasDrawnId r operation (clock_of then) job → IsServed shape (id_of job)
+    → MaySendFor shape r operation top_aim (body_for (clock_of then) job)
+may_ask shape r operation (Puts id body) then next u h s = may_put (simple_rules shape) r operation (begun_as (Puts id body)) then next id _ u h
+may_ask shape r operation (Gets id) then next u h s = may_get (simple_rules shape) r operation id then next u (inl s.simple) s.within
+may_ask shape r operation (Deletes id) then next u h s = may_delete (simple_rules shape) r operation id then next u s.simple s.within
+
 -- the request is for the piece
-fits_piece : (operation : ℕ) (id : BlobId) (body : Body) (f : Frame) (node : ℕ) (before : Record) → IsRequest id body → f.body ≡ body → operation_of f.correlation ≡ operation → aim_of f.correlation before ≡ Some (record { part = Top; attempt = 0 })
-    → is_of (piece_for operation id body) (ask_as f node before) ≡ true
-fits_piece operation id body f node before request b o a =
-    both_true _ _ _ (ap (λ (n : ℕ). n == (piece_for operation id body).operation) o ∙ numbers body) (ap (λ (aim : Option Aim). aims_at (piece_for operation id body) aim) a ∙ aims_top body)
-    (ap (λ (x : Body). fits (piece_for operation id body) (kind_of x) (id_of x)) b ∙ kinds body request)
+fits_piece : (operation moment : ℕ) (job : Job) (f : Frame) (node : ℕ) (before : Record) → f.body ≡ body_for moment job → operation_of f.correlation ≡ operation → aim_of f.correlation before ≡ Some top_aim
+    → is_of (piece_for operation job) (ask_as f node before) ≡ true
+fits_piece operation moment job f node before b o a =
+    both_true _ _ _ (ap (λ (n : ℕ). n == (piece_for operation job).operation) o ∙ numbers job) (ap (λ (aim : Option Aim). aims_at (piece_for operation job) aim) a ∙ aims_top job)
+    (ap (λ (x : Body). fits (piece_for operation job) (Notes.kind_of x) (Notes.id_of x)) b ∙ kinds job)
   where
-    numbers : (body : Body) → (operation == (piece_for operation id body).operation) ≡ true
-    numbers (Body.Put other blob) = same_number operation
-    numbers (Body.Get other) = same_number operation
-    numbers (Body.Peek other) = same_number operation
-    numbers (Body.Delete other at) = same_number operation
-    numbers (Body.Fetch other) = same_number operation
-    numbers (Body.Answer reply) = same_number operation
+    numbers : (job : Job) → (operation == (piece_for operation job).operation) ≡ true
+    numbers (Puts id body) = same_number operation
+    numbers (Gets id) = same_number operation
+    numbers (Deletes id) = same_number operation
 
-    aims_top : (body : Body) → aims_at (piece_for operation id body) (Some (record { part = Top; attempt = 0 })) ≡ true
-    aims_top (Body.Put other blob) = refl
-    aims_top (Body.Get other) = refl
-    aims_top (Body.Peek other) = refl
-    aims_top (Body.Delete other at) = refl
-    aims_top (Body.Fetch other) = refl
-    aims_top (Body.Answer reply) = refl
+    aims_top : (job : Job) → aims_at (piece_for operation job) (Some top_aim) ≡ true
+    aims_top (Puts id body) = refl
+    aims_top (Gets id) = refl
+    aims_top (Deletes id) = refl
 
-    kinds : (body : Body) → IsRequest id body → fits (piece_for operation id body) (kind_of body) (id_of body) ≡ true
-    kinds (Body.Put other blob) r = ap (λ (x : BlobId). same_id x id) r.0 ∙ same_id_self id
-    kinds (Body.Get other) r = ap (λ (x : BlobId). same_id x id) r ∙ same_id_self id
-    kinds (Body.Peek other) r = absurd r
-    kinds (Body.Delete other at) r = absurd r
-    kinds (Body.Fetch other) r = absurd r
-    kinds (Body.Answer reply) r = absurd r
+    kinds : (job : Job) → fits (piece_for operation job) (Notes.kind_of (body_for moment job)) (Notes.id_of (body_for moment job)) ≡ true
+    kinds (Puts id body) = same_id_self id
+    kinds (Gets id) = same_id_self id
+    kinds (Deletes id) = same_id_self id
 
--- the record with the aim of the next request
-abbrev pub aimed_record : Live → Record → Record
-aimed_record live r = Aimed (next_correlation live) Top 0 ∷ r
+-- and by its operation's calls
+pub is_for_piece : (shape : Shape) (moment : ℕ) (job : Job) (s : Sending) → IsForPiece shape moment job s → is_for (target_for shape moment job) s ≡ true
+is_for_piece shape moment job s p =
+    subst (λ (x : Sending). is_for (target_for shape moment job) x ≡ true) (sym (same_sending s (errand_for moment job) p.purpose p.errand)) (go job)
+  where
+    as_part : Errand → Sending
+    as_part errand = record { request = s.request; replica = s.replica; purpose = Purpose.Part None 0; errand = errand }
 
-abbrev pub node_to : Shape → Live → ℕ
-node_to shape live = node_of shape live.frame.partition live.asked
+    same_sending : (s : Sending) (errand : Errand) → s.purpose ≡ Purpose.Part None 0 → s.errand ≡ errand → s ≡ record { request = s.request; replica = s.replica; purpose = Purpose.Part None 0; errand = errand }
+    same_sending s errand e f = λ i. record { request = s.request; replica = s.replica; purpose = e i; errand = f i }
 
-same_entry : (n node : ℕ) (asking : Asking) (clock clock' events events' : ℕ) → clock ≡ clock' → events ≡ events'
-    → ◌≡◌ {A = Entry} (record { correlation = n; node = node; asking = asking; clock = clock; events = events }) (record { correlation = n; node = node; asking = asking; clock = clock'; events = events' })
-same_entry n node asking clock clock' events events' c e = cc
+    go : (job : Job) → is_for (target_for shape moment job) (as_part (errand_for moment job)) ≡ true
+    go (Puts id body) = same_id_self id
+    go (Gets id) = same_id_self id
+    go (Deletes id) = same_id_self id
 
-number_of_operation : (live : Live) (shape : Shape) → IsShape shape → live.asked < shape.replicas → operation_of (next_correlation live) ≡ live.operation
-number_of_operation live shape is l = div-mul-add live.operation (2 ^ 32) (live.asked + 1) (omega (arith, l, is.replicas, is.nodes))
+-- what is spelled of its errand
+pub body_is : (shape : Shape) (moment : ℕ) (job : Job) (calls : List Call) (s : Sending) → WasGiven shape moment job calls → IsForPiece shape moment job s → (plan_for shape moment job).body calls s.errand ≡ Some (body_for moment job)
+body_is shape moment job calls s given p = ap (λ (e : Errand). (plan_for shape moment job).body calls e) p.errand ∙ go job given
+  where
+    go : (job : Job) → WasGiven shape moment job calls → (plan_for shape moment job).body calls (errand_for moment job) ≡ Some (body_for moment job)
+    go (Puts id body) g = ap (λ (d : Option Draw). stored_body (put_task shape moment body) d id) g
+    go (Gets id) g = refl
+    go (Deletes id) g = refl
+
+errand_id : (moment : ℕ) (job : Job) → Calls.id_of (errand_for moment job) ≡ id_of job
+errand_id moment (Puts id body) = refl
+errand_id moment (Gets id) = refl
+errand_id moment (Deletes id) = refl
+
+-- what it asks is what its errand says
+asks_as : (moment : ℕ) (job : Job) → asking_of (errand_for moment job) ≡ Notes.asking_of (body_for moment job)
+asks_as moment (Puts id body) = refl
+asks_as moment (Gets id) = refl
+asks_as moment (Deletes id) = refl
+
+abbrev pub frame_for : ℕ → ℕ → Job → Sending → Frame
+frame_for operation moment job s = asked_frame (correlation_for operation s) s (body_for moment job)
+
+pub is_request : (shape : Shape) (operation clock events : ℕ) (s : Sending) → s.request < 2 ^ 32 → IsRequest operation (entry_for shape operation clock events s) s
+is_request shape operation clock events s l = record { correlation = refl; within = l; replica = refl; asking = refl }
+
+same_entry : (n node : ℕ) (asking asking' : Asking) (clock clock' events events' : ℕ) → asking ≡ asking' → clock ≡ clock' → events ≡ events'
+    → ◌≡◌ {A = Entry} (record { correlation = n; node = node; asking = asking; clock = clock; events = events }) (record { correlation = n; node = node; asking = asking'; clock = clock'; events = events' })
+same_entry n node asking asking' clock clock' events events' a c e = cc
+
+pub own_operation : (operation : ℕ) (s : Sending) → s.request < 2 ^ 32 → operation_of (correlation_for operation s) ≡ operation
+own_operation operation s l = div-mul-add operation (2 ^ 32) s.request l
+
+-- the record with what the request is for
+abbrev pub aimed_record : ℕ → Sending → Record → Record
+aimed_record operation s r = Aimed (correlation_for operation s) Top 0 ∷ r
 
 -- the request goes out for the piece, with its entry
-sends_entry : (shape : Shape) (clock events : ℕ) (live : Live) (r : Record) (bytes : List ℕ) → IsShape shape → FitsLive shape live → live.asked < shape.replicas → frame_of bytes ≡ Some (next_frame live) → OwnsAt shape clock events live r
-    → SendsEntry shape (piece_of live) (aimed_record live r) (next_entry shape live clock events) (node_to shape live) bytes
-sends_entry shape clock events live r bytes is f l reads o = record {
-  frame = next_frame live;
-  reads = decoded_frame bytes (next_frame live) reads;
-  fits = fits_piece live.operation live.id live.frame.body (next_frame live) (node_to shape live) (aimed_record live r) f.request refl (number_of_operation live shape is l) (aimed_now r (next_correlation live) Top 0);
+pub sends_entry : (shape : Shape) (operation clock events moment : ℕ) (job : Job) (s : Sending) (r : Record) (bytes : List ℕ) → IsShape shape → IsForPiece shape moment job s → s.request < 2 ^ 32 → frame_of bytes ≡ Some (frame_for operation moment job s)
+    → clock ≡ clock_of r → events ≡ events_in r → ((a : Asked) → Has (asked r) a → operation_of a.correlation ≡ operation → a.correlation < correlation_for operation s)
+    → SendsEntry shape (piece_for operation job) (aimed_record operation s r) (entry_for shape operation clock events s) (node_for shape s) bytes
+sends_entry shape operation clock events moment job s r bytes is p l reads clocks counts below = record {
+  frame = frame_for operation moment job s;
+  reads = decoded_frame bytes (frame_for operation moment job s) reads;
+  fits = fits_piece operation moment job (frame_for operation moment job s) (node_for shape s) (aimed_record operation s r) refl (own_operation operation s l) (aimed_now r (correlation_for operation s) Top 0);
   entry = record {
-    entry = same_entry (next_correlation live) (node_to shape live) (asking_of live.frame.body) clock (clock_of r) events (events_in r) o.clocks o.counts;
-    replica = replica_at shape live.frame.partition live.asked is l;
+    entry = same_entry (correlation_for operation s) (node_for shape s) (asking_of s.errand) (Notes.asking_of (body_for moment job)) clock (clock_of r) events (events_in r) (ap asking_of p.errand ∙ asks_as moment job) clocks counts;
+    replica = replica_at shape (partition_of (Calls.id_of s.errand)) s.replica is p.replica;
   };
-  fresh = λ a h e.
-      let below = o.live_owns.under_way.below a h (ap (λ (n : ℕ). operation_of n) e ∙ number_of_operation live shape is l) in
-      omega (arith, below, e);
+  fresh = λ a h e. let b = below a h (ap (λ (n : ℕ). operation_of n) e ∙ own_operation operation s l) in omega (arith, b, e);
 }
 
-sendable : (shape : Shape) (clock events : ℕ) (live : Live) (r : Record) → IsShape shape → live.asked < shape.replicas → (o : OwnsAt shape clock events live r)
-    → IsUnderWay (simple_rules shape) (aimed_record live r) live.operation o.live_owns.begun o.live_owns.then (live.asked + 1)
-    → Sendable (simple_rules shape) (aimed_record live r) live.operation (live.asked + 1) (node_to shape live) (next_frame live) (record { part = Top; attempt = 0 })
-sendable shape clock events live r is l o u = record {
-  number = refl;
-  some = omega arith;
-  room = omega (arith, l, is.replicas, is.nodes);
-  stands = ap (λ (x : Option ℕ). is_some x) (replica_at shape live.frame.partition live.asked is l);
-  aimed = aimed_now r (next_correlation live) Top 0;
-  may = may_ask shape (aimed_record live r) live.operation live.id live.frame.body o.live_owns.begun o.live_owns.then (live.asked + 1) u (asks_later shape _ r live.operation live.id live.frame.body o.live_owns.begun o.live_owns.asks);
+-- the record with the next request of an operation under way
+pub sendable : (shape : Shape) (operation next : ℕ) (job : Job) (s : Sending) (then r : Record) → IsShape shape → IsForPiece shape (clock_of then) job s → s.request ≡ next → 0 < next → next < 2 ^ 32
+    → IsUnderWay (simple_rules shape) (aimed_record operation s r) operation (begun_as job) then next → HasDrawnId r operation (clock_of then) job → IsServed shape (id_of job)
+    → Sendable (simple_rules shape) (aimed_record operation s r) operation next (node_for shape s) (frame_for operation (clock_of then) job s) top_aim
+sendable shape operation next job s then r is p n some room u drawn served = record {
+  number = ap (λ (k : ℕ). operation * 2 ^ 32 + k) n;
+  some = some;
+  room = room;
+  stands = ap (λ (x : Option ℕ). is_some x) (replica_at shape (partition_of (Calls.id_of s.errand)) s.replica is p.replica);
+  aimed = aimed_now r (correlation_for operation s) Top 0;
+  may = may_ask shape (aimed_record operation s r) operation job then next u (drawn_later _ r operation (clock_of then) job drawn) served;
 }
 
-aimed_under_way : (shape : Shape) (clock events : ℕ) (live : Live) (r : Record) → (o : OwnsAt shape clock events live r)
-    → IsUnderWay (simple_rules shape) (aimed_record live r) live.operation o.live_owns.begun o.live_owns.then (live.asked + 1)
-aimed_under_way shape clock events live r o = aims (simple_rules shape) r live.operation o.live_owns.begun o.live_owns.then (live.asked + 1) (next_correlation live) Top 0 o.live_owns.under_way
-
--- what is kept of the piece stays behind the aim
-aimed_owns : (shape : Shape) (clock events : ℕ) (live : Live) (r : Record) → OwnsAt shape clock events live r → OwnsPiece shape (piece_of live) (aimed_record live r) live.piece
-aimed_owns shape clock events live r o = owns_stays (simple_rules shape) (piece_of live) (Aimed (next_correlation live) Top 0) r live.piece o.live_owns.under_way.going.kept refl refl o.live_owns.owns
-
--- The operation goes on by a request that goes out.
-pub asked_sent : (shape : Shape) (clock events : ℕ) (live : Live) (r : Record) (bytes : List ℕ) (view : PieceView) → IsShape shape → FitsLive shape live → live.asked < shape.replicas → frame_of bytes ≡ Some (next_frame live)
-    → ((piece : Piece) (before : Record) → SendsEntry shape piece before (next_entry shape live clock events) (node_to shape live) bytes → OwnsPiece shape piece before live.piece → OwnsPiece shape piece (Took (Step.Send 0 (node_to shape live) bytes) ∷ before) view)
-    → OwnsAt shape clock events live r → OwnsAt shape clock events (asked_one (numbered live) view) (Took (Step.Send 0 (node_to shape live) bytes) ∷ aimed_record live r)
-asked_sent shape clock events live r bytes view is f l reads owns o =
-    let u = aimed_under_way shape clock events live r o in
-    record {
-      clocks = o.clocks;
-      counts = o.counts;
-      live_owns = record {
-        begun = o.live_owns.begun;
-        then = o.live_owns.then;
-        under_way =
-            sends (simple_rules shape) (aimed_record live r) live.operation o.live_owns.begun o.live_owns.then (live.asked + 1) (node_to shape live) (next_frame live) (record { part = Top; attempt = 0 }) bytes u
-            (sendable shape clock events live r is l o u) (decoded_frame bytes (next_frame live) reads);
-        asks = asks_later shape _ (aimed_record live r) live.operation live.id live.frame.body o.live_owns.begun (asks_later shape _ r live.operation live.id live.frame.body o.live_owns.begun o.live_owns.asks);
-        owns = owns (piece_of live) (aimed_record live r) (sends_entry shape clock events live r bytes is f l reads o) (aimed_owns shape clock events live r o);
-      };
-    }
-
--- The operation goes on by a request that is refused.
-pub asked_refused : (shape : Shape) (clock events : ℕ) (live : Live) (r : Record) (bytes : List ℕ) (view : PieceView) → IsShape shape → FitsLive shape live → live.asked < shape.replicas → frame_of bytes ≡ Some (next_frame live)
-    → ((piece : Piece) (before : Record) → IsKept (simple_rules shape) before → SendsEntry shape piece before (next_entry shape live clock events) (node_to shape live) bytes → OwnsPiece shape piece before live.piece
-    → OwnsPiece shape piece (Took (Step.Refused (node_to shape live) bytes) ∷ before) view)
-    → OwnsAt shape clock events live r → OwnsAt shape clock events (asked_one (numbered live) view) (Took (Step.Refused (node_to shape live) bytes) ∷ aimed_record live r)
-asked_refused shape clock events live r bytes view is f l reads owns o =
-    let u = aimed_under_way shape clock events live r o in
-    record {
-      clocks = o.clocks;
-      counts = o.counts;
-      live_owns = record {
-        begun = o.live_owns.begun;
-        then = o.live_owns.then;
-        under_way =
-            refused (simple_rules shape) (aimed_record live r) live.operation o.live_owns.begun o.live_owns.then (live.asked + 1) (node_to shape live) (next_frame live) (record { part = Top; attempt = 0 }) bytes u
-            (sendable shape clock events live r is l o u) (decoded_frame bytes (next_frame live) reads);
-        asks = asks_later shape _ (aimed_record live r) live.operation live.id live.frame.body o.live_owns.begun (asks_later shape _ r live.operation live.id live.frame.body o.live_owns.begun o.live_owns.asks);
-        owns = owns (piece_of live) (aimed_record live r) u.going.kept (sends_entry shape clock events live r bytes is f l reads o) (aimed_owns shape clock events live r o);
-      };
-    }
-
--- ---- what an operation keeps to
-
-pub fits_numbered : (shape : Shape) (live : Live) → FitsLive shape live → FitsLive shape (numbered live)
-fits_numbered shape live f = record { number = f.number; asked = f.asked; id = f.id; simple = f.simple; within = f.within; place = f.place; request = f.request; replicas = f.replicas; few = f.few }
-
-pub fits_one : (shape : Shape) (live : Live) (view : PieceView) → view.tally.replicas ≡ live.piece.tally.replicas → length view.requests ≤ length live.piece.requests + 1 → FitsLive shape live → live.asked < shape.replicas → FitsLive shape (asked_one live view)
-fits_one shape live view t l f a =
-    record { number = f.number; asked = omega (arith, a); id = f.id; simple = f.simple; within = f.within; place = f.place; request = f.request; replicas = t ∙ f.replicas; few = omega (arith, l, f.few) }
-
--- ---- the record that is tied to the calls goes on
-
-pub ties_sent : (shape : Shape) (clock events : ℕ) (old mid new : Live) (waiting : Waiting) (bytes : List ℕ) (told told' : Option (List Called)) (marks : List HistoryMark) → IsShape shape → FitsLive shape old → old.asked < shape.replicas
-    → frame_of bytes ≡ Some (next_frame old) → waiting ≡ next_entry shape old clock events → mid ≡ numbered old → new ≡ asked_one mid new.piece
-    → ((shape : Shape) (piece : Piece) (before : Record) (node : ℕ) (bytes : List ℕ) → SendsEntry shape piece before waiting node bytes → OwnsPiece shape piece before mid.piece → OwnsPiece shape piece (Took (Step.Send 0 node bytes) ∷ before) new.piece)
-    → Tells told told' (Sent waiting.node bytes) → Ties (OwnsAt shape clock events old) told marks → Ties (OwnsAt shape clock events new) told' marks
-ties_sent shape clock events old mid new waiting bytes told told' marks is f l reads e m v owns tells t =
-    let node = node_to shape old in
-    let corr : Item = Aimed (next_correlation old) Top 0 in
-    let q : Record → Type 0 = λ r. (before : Record) × (r ≡ aimed_record old before) × OwnsAt shape clock events old before in
-    let t1 : Ties q told marks = tie_items (OwnsAt shape clock events old) q (corr ∷ []) told marks (refl, tt) (λ r o. (r, refl, o)) t in
-    let tells1 : Tells told told' (Sent node bytes) = subst (λ (w : Waiting). Tells told told' (Sent w.node bytes)) e tells in
-    let goes : new ≡ asked_one (numbered old) new.piece = v ∙ ap (λ (x : Live). asked_one x new.piece) m in
-    tie_call q (OwnsAt shape clock events new) (Sent node bytes) told told' marks tells1
-    (λ call made r h.
-    let o : OwnsAt shape clock events (asked_one (numbered old) new.piece) (Took (Step.Send 0 node bytes) ∷ aimed_record old h.0) = asked_sent shape clock events old h.0 bytes new.piece is f l reads
-    (λ piece before s p. owns shape piece before node bytes (subst (λ (w : Waiting). SendsEntry shape piece before w node bytes) (sym e) s) (subst (λ (x : Live). OwnsPiece shape piece before x.piece) (sym m) p)) h.2 in
-    let there : OwnsAt shape clock events new (Took (Step.Send 0 node bytes) ∷ aimed_record old h.0) = subst (λ (x : Live). OwnsAt shape clock events x (Took (Step.Send 0 node bytes) ∷ aimed_record old h.0)) (sym goes) o in
-    let whole : OwnsAt shape clock events new (Took (Step.Send 0 node bytes) ∷ r) = subst (λ (x : Record). OwnsAt shape clock events new (Took (Step.Send 0 node bytes) ∷ x)) (sym h.1) there in
-    subst (λ (x : Record). OwnsAt shape clock events new (x ++ r)) (sym (items_sent node bytes call made)) whole)
-    t1
-
-pub ties_refused : (shape : Shape) (clock events : ℕ) (old mid new : Live) (waiting : Waiting) (bytes : List ℕ) (told told' : Option (List Called)) (marks : List HistoryMark) → IsShape shape → FitsLive shape old → old.asked < shape.replicas
-    → frame_of bytes ≡ Some (next_frame old) → waiting ≡ next_entry shape old clock events → mid ≡ numbered old → new ≡ asked_one mid new.piece
-    → ((rules : Rules) (piece : Piece) (before : Record) (node : ℕ) (bytes : List ℕ) → IsKept rules before → SendsEntry rules.shape piece before waiting node bytes → OwnsPiece rules.shape piece before mid.piece → OwnsPiece rules.shape piece (Took (Step.Refused node bytes) ∷ before) new.piece)
-    → Tells told told' (Refused waiting.node bytes) → Ties (OwnsAt shape clock events old) told marks → Ties (OwnsAt shape clock events new) told' marks
-ties_refused shape clock events old mid new waiting bytes told told' marks is f l reads e m v owns tells t =
-    let node = node_to shape old in
-    let corr : Item = Aimed (next_correlation old) Top 0 in
-    let q : Record → Type 0 = λ r. (before : Record) × (r ≡ aimed_record old before) × OwnsAt shape clock events old before in
-    let t1 : Ties q told marks = tie_items (OwnsAt shape clock events old) q (corr ∷ []) told marks (refl, tt) (λ r o. (r, refl, o)) t in
-    let tells1 : Tells told told' (Refused node bytes) = subst (λ (w : Waiting). Tells told told' (Refused w.node bytes)) e tells in
-    let goes : new ≡ asked_one (numbered old) new.piece = v ∙ ap (λ (x : Live). asked_one x new.piece) m in
-    tie_call q (OwnsAt shape clock events new) (Refused node bytes) told told' marks tells1
-    (λ call made r h.
-    let o : OwnsAt shape clock events (asked_one (numbered old) new.piece) (Took (Step.Refused node bytes) ∷ aimed_record old h.0) = asked_refused shape clock events old h.0 bytes new.piece is f l reads
-    (λ piece before kept s p. owns (simple_rules shape) piece before node bytes kept (subst (λ (w : Waiting). SendsEntry shape piece before w node bytes) (sym e) s) (subst (λ (x : Live). OwnsPiece shape piece before x.piece) (sym m) p)) h.2 in
-    let there : OwnsAt shape clock events new (Took (Step.Refused node bytes) ∷ aimed_record old h.0) = subst (λ (x : Live). OwnsAt shape clock events x (Took (Step.Refused node bytes) ∷ aimed_record old h.0)) (sym goes) o in
-    let whole : OwnsAt shape clock events new (Took (Step.Refused node bytes) ∷ r) = subst (λ (x : Record). OwnsAt shape clock events new (Took (Step.Refused node bytes) ∷ x)) (sym h.1) there in
-    subst (λ (x : Record). OwnsAt shape clock events new (x ++ r)) (sym (items_refused node bytes call made)) whole)
-    t1
+-- its entry is for the request of its operation's piece
+pub own_request : (shape : Shape) (operation clock events : ℕ) (job : Job) (s : Sending) → s.request < 2 ^ 32 → IsRequest (piece_for operation job).operation (entry_for shape operation clock events s) s
+own_request shape operation clock events (Puts id body) s l = is_request shape operation clock events s l
+own_request shape operation clock events (Gets id) s l = is_request shape operation clock events s l
+own_request shape operation clock events (Deletes id) s l = is_request shape operation clock events s l

@@ -5,28 +5,32 @@ use Rattle.blob_id.specs.declared.id.BlobId.{BlobId}
 use Rattle.blob_id.specs.declared.id.Kind.{Kind}
 use Rattle.blob_id.specs.Id.{kind_of, partition_of}
 use Rattle.quorum_op.specs.declared.outcome.Outcome.{Outcome}
-use Rattle.req_frame.specs.declared.frame.Body.{Body}
 use Rattle.world_model.specs.declared.history.Begun.{Begun}
 use Rattle.world_model.specs.declared.history.HistoryMark.{HistoryMark}
 use Rattle.world_model.specs.declared.history.HistoryMark.TheVariants.{Begin, Drew}
 use Rattle.world_model.specs.declared.shape.Shape.{Shape}
 use Rattle.world_model.specs.declared.step.Called.{Called}
-use Rattle.world_model.specs.Notes.{Piece, clock_of, events_in}
+use Rattle.world_model.specs.Notes.{Piece, clock_of}
 use Rattle.world_model.specs.Ordered.{marks_of}
-use Rattle.world_model.specs.Outcomes.{DrewNothing, Follows, put_piece, read_piece}
+use Rattle.world_model.specs.Outcomes.{DrewNothing, Follows, named, names_id}
 use Rattle.world_model.specs.Pieces.{is_chunk, is_composite, is_simple, same_kind}
 use Rattle.world_model.specs.Record.{Top, Marked, Drawn, Decided, Record}
 use Rattle.world_model.specs.Router.{begun_in}
 use Rattle.world_model.specs.Told.{AllSession}
+use Rattle.operation.specs.Calls.{Drew}
+use Rattle.op_table.specs.declared.waiting.Waiting.{Waiting}
+use Rattle.op_table.specs.Piece.{AsksNothing}
+use Rattle.op_table.specs.Tied.{IsTarget, OwnsCalls}
+use Rattle.op_table.proofs.TiedLaws.{nothing_asked}
 use Rattle.router_core.specs.declared.live.Live.{Live}
 use Rattle.router_core.specs.declared.router.Stage.{Stage}
-use Rattle.router_core.specs.Beginning.{BeginsAs, begin_items}
-use Rattle.router_core.specs.Fits.{RouterView}
-use Rattle.live_piece.specs.Piece.{AsksNothing, OwnsPiece}
-use Rattle.router_core.specs.Requests.{new_live}
-use Rattle.router_core.specs.Stages.{simple_rules, IsIdle, IsOver, IsUnderWay}
-use Rattle.router_core.specs.Stands.{Owns, OwnsLive, OwnsStage, Stands, is_idle}
+use Rattle.router_core.specs.Beginning.{BeginsAs, IsRefused, begin_items}
+use Rattle.router_core.specs.Fits.{DoesJob, RouterView}
+use Rattle.router_core.specs.Jobs.{Job, Puts, Gets, Deletes, HasDrawnId, IsServed, begun_as, piece_for, target_for}
+use Rattle.router_core.specs.Stages.{simple_rules, AimsBelow, AimsWithin, IsIdle, IsOver, IsUnderWay}
+use Rattle.router_core.specs.Stands.{Counts, Owns, OwnsLive, OwnsStage, Stands, is_idle}
 use Rattle.router_core.specs.Ties.{Ties}
+use Rattle.router_core.proofs.AimLaws.{below_stays, none_said, within_stays}
 use Rattle.router_core.proofs.StageLaws.{begins, decides, draws, drew_nothing, no_requests}
 use Rattle.router_core.proofs.TieLaws.{tie_items, tie_same}
 
@@ -50,40 +54,74 @@ none_drawn shape r operation begun i e =
     let n : operation ≡ 1 + begun_in r = omega (arith, e) in
     subst (λ (k : ℕ). DrewNothing (Marked (Begin k begun) ∷ r) k) (sym n) (drew_nothing (simple_rules shape) r begun i)
 
+-- a piece as its operation has it
+is_target : (shape : Shape) (operation moment : ℕ) (job : Job) → IsTarget shape (piece_for operation job) (target_for shape moment job)
+is_target shape operation moment (Puts id body) = record { kind = refl; id = refl; replicas = refl; need = refl }
+is_target shape operation moment (Gets id) = record { kind = refl; id = refl; replicas = refl; need = refl }
+is_target shape operation moment (Deletes id) = record { kind = refl; id = refl; replicas = refl; need = refl }
+
+piece_number : (operation : ℕ) (job : Job) → (piece_for operation job).operation ≡ operation
+piece_number operation (Puts id body) = refl
+piece_number operation (Gets id) = refl
+piece_number operation (Deletes id) = refl
+
+said_nothing : (shape : Shape) (r : Record) (operation : ℕ) (begun : Begun) → operation ≡ begun_in r + 1 → AimsWithin r → AimsBelow (Marked (Begin operation begun) ∷ r) operation 1
+said_nothing shape r operation begun e w = below_stays (Marked (Begin operation begun)) r operation 1 1 (λ c p a x. absurd cc) (omega arith) (none_said r operation 1 e w)
+
 -- ---- a put
 
-abbrev pub blob_of : ℕ → List ℕ → List ℕ → List ℕ → Blob
-blob_of created ctype meta body = record { created = created; ctype = ctype; meta = meta; body = body }
-
-put_owned : (shape : Shape) (r : Record) (operation : ℕ) (id : BlobId) (blob : Blob) (body : List ℕ) (live : Live) → IsIdle (simple_rules shape) r → operation ≡ begun_in r + 1 → operation < 2 ^ 31 → length body ≤ shape.chunk → is_simple id ≡ true
-    → partition_of id ≡ (operation - 1) % shape.partitions → partition_of id < shape.partitions → blob ≡ record { created = clock_of r; ctype = []; meta = []; body = body } → live ≡ new_live operation id (Body.Put id blob) live.piece
-    → ((record' : Record) → AsksNothing (put_piece operation Top 0 id) record' → OwnsPiece shape (put_piece operation Top 0 id) record' live.piece)
-    → OwnsLive shape (Drawn operation Top 0 id blob ∷ Marked (Begin operation (Begun.Put [] body 0 [] [])) ∷ r) live
-put_owned shape r operation id blob body live i e l small simple chosen within is v owns =
+pub put_owned : (shape : Shape) (r : Record) (operation moment : ℕ) (id : BlobId) (body : List ℕ) (live : Live) → IsIdle (simple_rules shape) r → AimsWithin r → moment ≡ clock_of r → operation ≡ begun_in r + 1 → operation < 2 ^ 31 → length body ≤ shape.chunk
+    → IsServed shape id → partition_of id ≡ (operation - 1) % shape.partitions → live.operation ≡ operation → live.requests ≡ [] → DoesJob shape moment (Puts id body) live.op (Drew id (Some body) ∷ [])
+    → OwnsLive shape (Drawn operation Top 0 id (record { created = moment; ctype = []; meta = []; body = body }) ∷ Marked (Begin operation (Begun.Put [] body 0 [] [])) ∷ r) live []
+put_owned shape r operation moment id body live i w clock e l small served chosen same none does =
     let begun : Begun = Begun.Put [] body 0 [] [] in
+    let job : Job = Puts id body in
+    let blob : Blob = record { created = moment; ctype = []; meta = []; body = body } in
+    let now : Record = Drawn operation Top 0 id blob ∷ Marked (Begin operation begun) ∷ r in
     let turn : partition_of id ≡ (operation - 1 + 0 + 0) % shape.partitions = chosen ∙ ap (λ (n : ℕ). n % shape.partitions) (omega arith) in
-    let there : OwnsLive shape (Drawn operation Top 0 id blob ∷ Marked (Begin operation begun) ∷ r) (new_live operation id (Body.Put id blob) live.piece) = record {
-      begun = begun;
+    let u = draws shape (Marked (Begin operation begun) ∷ r) operation body r 1 id blob (begins_next shape r operation begun i e l) (none_drawn shape r operation begun i e) small served.simple turn served.within
+    (ap (λ (n : ℕ). record { created = n; ctype = []; meta = []; body = body }) clock) in
+    let owns = nothing_asked shape (piece_for operation job) (target_for shape moment job) now (Drew id (Some body) ∷ []) (is_target shape operation moment job) (asks_nothing shape r operation begun (piece_for operation job) i e refl) refl in
+    record {
+      job = job;
       then = r;
-      under_way = draws shape (Marked (Begin operation begun) ∷ r) operation body r 1 id blob (begins_next shape r operation begun i e l) (none_drawn shape r operation begun i e) small simple turn within is;
-      asks = (refl, (body, refl), inl refl);
-      owns = owns (Drawn operation Top 0 id blob ∷ Marked (Begin operation begun) ∷ r) (asks_nothing shape r operation begun (put_piece operation Top 0 id) i e refl);
-    } in
-    subst (λ (x : Live). OwnsLive shape (Drawn operation Top 0 id blob ∷ Marked (Begin operation begun) ∷ r) x) (sym v) there
+      calls = Drew id (Some body) ∷ [];
+      next = 1;
+      from = 1;
+      under_way = subst (λ (k : ℕ). IsUnderWay (simple_rules shape) now k begun r 1) (sym same) u;
+      aims = subst (λ (k : ℕ). AimsBelow now k 1) (sym same) (below_stays (Drawn operation Top 0 id blob) (Marked (Begin operation begun) ∷ r) operation 1 1 (λ c p a x. absurd cc) (omega arith) (said_nothing shape r operation begun e w));
+      drawn = subst (λ (k : ℕ). HasDrawnId now k (clock_of r) job) (sym same) (subst (λ (m : ℕ). HasDrawnId now operation m job) clock (inl refl));
+      does = subst (λ (m : ℕ). DoesJob shape m job live.op (Drew id (Some body) ∷ [])) clock does;
+      goes_on = (refl, tt);
+      owns = subst (λ (m : ℕ). OwnsCalls shape (piece_for live.operation job) (target_for shape m job) now live.requests (Drew id (Some body) ∷ []) []) clock
+          (subst (λ (k : ℕ). OwnsCalls shape (piece_for k job) (target_for shape moment job) now live.requests (Drew id (Some body) ∷ []) []) (sym same)
+          (subst (λ (ws : List Waiting). OwnsCalls shape (piece_for operation job) (target_for shape moment job) now ws (Drew id (Some body) ∷ []) []) (sym none) owns));
+      some = omega arith;
+      ahead = omega arith;
+      numbered = tt;
+      counted = omega arith;
+      for_piece = tt;
+    }
 
-pub ties_put : (old : RouterView) (id : BlobId) (blob : Blob) (body : List ℕ) (live : Live) (told : Option (List Called)) (marks : List HistoryMark) → is_idle old.stage ≡ true → old.begun + 1 < 2 ^ 31 → length body ≤ old.shape.chunk → is_simple id ≡ true
-    → partition_of id ≡ old.begun % old.shape.partitions → partition_of id < old.shape.partitions → blob ≡ record { created = old.clock; ctype = []; meta = []; body = body } → live ≡ new_live (old.begun + 1) id (Body.Put id blob) live.piece
-    → ((record' : Record) → AsksNothing (put_piece (old.begun + 1) Top 0 id) record' → OwnsPiece old.shape (put_piece (old.begun + 1) Top 0 id) record' live.piece)
+pub ties_put : (old : RouterView) (id : BlobId) (body : List ℕ) (live : Live) (told : Option (List Called)) (marks : List HistoryMark) → is_idle old.stage ≡ true → old.begun + 1 < 2 ^ 31 → length body ≤ old.shape.chunk → IsServed old.shape id
+    → partition_of id ≡ old.begun % old.shape.partitions → live.operation ≡ old.begun + 1 → live.requests ≡ [] → DoesJob old.shape old.clock (Puts id body) live.op (Drew id (Some body) ∷ [])
     → Ties (Owns old) told marks → Ties (Owns (record { shape = old.shape; clock = old.clock; events = old.events; begun = old.begun + 1; stage = Stage.UnderWay live })) told (Drew (old.begun + 1) id ∷ Begin (old.begun + 1) (Begun.Put [] body 0 [] []) ∷ marks)
-ties_put old id blob body live told marks idle l small simple chosen within is v owns t =
+ties_put old id body live told marks idle l small served chosen same none does t =
     let new : RouterView = record { shape = old.shape; clock = old.clock; events = old.events; begun = old.begun + 1; stage = Stage.UnderWay live } in
-    tie_items (Owns old) (Owns new) (Drawn (old.begun + 1) Top 0 id blob ∷ Marked (Begin (old.begun + 1) (Begun.Put [] body 0 [] [])) ∷ []) told marks (refl, (refl, tt))
-    (λ r o. record {
-      clock = o.clock;
-      events = o.events;
-      begun = omega (arith, o.begun);
-      stage = put_owned old.shape r (old.begun + 1) id blob body live (idle_record old.shape r old.stage idle o.stage) (omega (arith, o.begun)) l small simple (chosen ∙ ap (λ (n : ℕ). n % old.shape.partitions) (omega arith)) within
-          (is ∙ ap (λ (n : ℕ). blob_of n [] [] body) o.clock) v owns;
+    let drawn = Drawn (old.begun + 1) Top 0 id (record { created = old.clock; ctype = []; meta = []; body = body }) in
+    let mark = Marked (Begin (old.begun + 1) (Begun.Put [] body 0 [] [])) in
+    tie_items (Owns old) (Owns new) (drawn ∷ mark ∷ []) told marks (refl, (refl, tt))
+    (λ r o.
+    let c = o.counts in
+    record {
+      counts = record {
+        clock_is = c.clock_is;
+        events_are = c.events_are;
+        begun_are = let b = c.begun_are in omega (arith, b);
+        aims = within_stays drawn (mark ∷ r) (λ x p a e. absurd cc) (omega arith) (within_stays mark r (λ x p a e. absurd cc) (omega arith) c.aims);
+      };
+      stage = put_owned old.shape r (old.begun + 1) old.clock id body live (idle_record old.shape r old.stage idle o.stage) c.aims c.clock_is (let b = c.begun_are in omega (arith, b)) l small served
+          (chosen ∙ ap (λ (n : ℕ). n % old.shape.partitions) (omega arith)) same none does;
     })
     t
 
@@ -98,29 +136,86 @@ pub ties_too_large : (old : RouterView) (size : ℕ) (body : List ℕ) (told : O
 ties_too_large old size body told marks idle l large long t =
     let new : RouterView = record { shape = old.shape; clock = old.clock; events = old.events; begun = old.begun + 1; stage = Stage.Over (old.begun + 1) (Outcome.TooLarge size) } in
     let begun : Begun = Begun.Put [] body 0 [] [] in
-    tie_items (Stands old) (Stands new) (Decided (old.begun + 1) (Outcome.TooLarge size) ∷ Marked (Begin (old.begun + 1) begun) ∷ []) told marks (refl, (refl, tt))
+    let over = Decided (old.begun + 1) (Outcome.TooLarge size) in
+    let mark = Marked (Begin (old.begun + 1) begun) in
+    tie_items (Stands old) (Stands new) (over ∷ mark ∷ []) told marks (refl, (refl, tt))
     (λ r s.
     let o = s.owns in
+    let c = o.counts in
     let i = idle_record old.shape r old.stage idle o.stage in
-    let e : old.begun + 1 ≡ begun_in r + 1 = omega (arith, o.begun) in
+    let e : old.begun + 1 ≡ begun_in r + 1 = let b = c.begun_are in omega (arith, b) in
     record {
       owns = record {
-        clock = o.clock;
-        events = o.events;
-        begun = omega (arith, o.begun);
+        counts = record {
+          clock_is = c.clock_is;
+          events_are = c.events_are;
+          begun_are = let b = c.begun_are in omega (arith, b);
+          aims = within_stays over (mark ∷ r) (λ x p a e. absurd cc) (omega arith) (within_stays mark r (λ x p a e. absurd cc) (omega arith) c.aims);
+        };
         stage = over_owned old.shape r (old.begun + 1) begun (Outcome.TooLarge size) i e l ((λ none. sym long), large, none_drawn old.shape r (old.begun + 1) begun i e) (λ x. absurd cc);
       };
       waits = tt;
     })
     t
 
--- ---- a get
+-- ---- an operation on an id
 
-pub no_id_begins : (shape : Shape) (operation : ℕ) → operation < 2 ^ 31 → BeginsAs shape operation (Begun.Get None None []) (Stage.Over operation Outcome.NoId)
-no_id_begins shape operation l = λ r i e. over_owned shape r operation (Begun.Get None None []) Outcome.NoId i e l (refl, refl) (λ x. absurd cc)
+refused_follows : (shape : Shape) (r : Record) (operation : ℕ) (begun : Begun) (outcome : Outcome) → names_id begun ≡ true → IsRefused shape (named begun) outcome → Follows (simple_rules shape) r operation begun outcome
+refused_follows shape r operation begun Outcome.NoId names why = (names, why)
+refused_follows shape r operation begun Outcome.NotWhole names why = why
+refused_follows shape r operation begun Outcome.NoPartition names why = (why.0, why.1, inl why.2, why.3)
+refused_follows shape r operation begun (Outcome.Put id) names why = absurd why
+refused_follows shape r operation begun Outcome.Deleted2 names why = absurd why
+refused_follows shape r operation begun (Outcome.Bytes bytes) names why = absurd why
+refused_follows shape r operation begun (Outcome.Info size created ctype meta) names why = absurd why
+refused_follows shape r operation begun Outcome.Deleted names why = absurd why
+refused_follows shape r operation begun Outcome.NotFound names why = absurd why
+refused_follows shape r operation begun (Outcome.Unavailable id failed) names why = absurd why
+refused_follows shape r operation begun Outcome.Cancelled names why = absurd why
+refused_follows shape r operation begun (Outcome.TooLarge size) names why = absurd why
+refused_follows shape r operation begun (Outcome.BadRange size) names why = absurd why
+refused_follows shape r operation begun Outcome.NoFile names why = absurd why
+refused_follows shape r operation begun (Outcome.Missing id) names why = absurd why
+refused_follows shape r operation begun (Outcome.Corrupt id) names why = absurd why
+refused_follows shape r operation begun Outcome.Memory names why = absurd why
 
-pub not_whole_begins : (shape : Shape) (operation : ℕ) (id : BlobId) → operation < 2 ^ 31 → is_chunk id ≡ true → BeginsAs shape operation (Begun.Get (Some id) None []) (Stage.Over operation Outcome.NotWhole)
-not_whole_begins shape operation id l k = λ r i e. over_owned shape r operation (Begun.Get (Some id) None []) Outcome.NotWhole i e l (id, refl, k) (λ x. absurd cc)
+-- one that is refused is over at once
+pub refused_begins : (shape : Shape) (clock operation : ℕ) (begun : Begun) (outcome : Outcome) → operation < 2 ^ 31 → names_id begun ≡ true → IsRefused shape (named begun) outcome → BeginsAs shape clock operation begun (Stage.Over operation outcome)
+refused_begins shape clock operation begun outcome l names why = λ r i w c e.
+    over_owned shape r operation begun outcome i e l (refused_follows shape (Marked (Begin operation begun) ∷ r) operation begun outcome names why)
+    (λ x. let z : IsRefused shape (named begun) Outcome.Cancelled = subst (λ (o : Outcome). IsRefused shape (named begun) o) x why in absurd z)
+
+job_owned : (shape : Shape) (r : Record) (clock operation : ℕ) (job : Job) (live : Live) → operation < 2 ^ 31 → live.operation ≡ operation → live.requests ≡ [] → DoesJob shape clock job live.op [] → (HasDrawnId (Marked (Begin operation (begun_as job)) ∷ r) operation (clock_of r) job)
+    → IsIdle (simple_rules shape) r → AimsWithin r → clock ≡ clock_of r → operation ≡ begun_in r + 1 → OwnsLive shape (Marked (Begin operation (begun_as job)) ∷ r) live []
+job_owned shape r clock operation job live l same none does drawn i w c e =
+    let now : Record = Marked (Begin operation (begun_as job)) ∷ r in
+    let owns = nothing_asked shape (piece_for operation job) (target_for shape clock job) now [] (is_target shape operation clock job) (asks_nothing shape r operation (begun_as job) (piece_for operation job) i e (piece_number operation job)) refl in
+    record {
+      job = job;
+      then = r;
+      calls = [];
+      next = 1;
+      from = 1;
+      under_way = subst (λ (k : ℕ). IsUnderWay (simple_rules shape) now k (begun_as job) r 1) (sym same) (begins_next shape r operation (begun_as job) i e l);
+      aims = subst (λ (k : ℕ). AimsBelow now k 1) (sym same) (said_nothing shape r operation (begun_as job) e w);
+      drawn = subst (λ (k : ℕ). HasDrawnId now k (clock_of r) job) (sym same) drawn;
+      does = subst (λ (m : ℕ). DoesJob shape m job live.op []) c does;
+      goes_on = tt;
+      owns = subst (λ (m : ℕ). OwnsCalls shape (piece_for live.operation job) (target_for shape m job) now live.requests [] []) c
+          (subst (λ (k : ℕ). OwnsCalls shape (piece_for k job) (target_for shape clock job) now live.requests [] []) (sym same)
+          (subst (λ (ws : List Waiting). OwnsCalls shape (piece_for operation job) (target_for shape clock job) now ws [] []) (sym none) owns));
+      some = omega arith;
+      ahead = omega arith;
+      numbered = tt;
+      counted = omega arith;
+      for_piece = tt;
+    }
+
+pub get_begins : (shape : Shape) (clock operation : ℕ) (id : BlobId) (live : Live) → operation < 2 ^ 31 → live.operation ≡ operation → live.requests ≡ [] → DoesJob shape clock (Gets id) live.op [] → BeginsAs shape clock operation (Begun.Get (Some id) None []) (Stage.UnderWay live)
+get_begins shape clock operation id live l same none does = λ r i w c e. job_owned shape r clock operation (Gets id) live l same none does tt i w c e
+
+pub delete_begins : (shape : Shape) (clock operation : ℕ) (id : BlobId) (live : Live) → operation < 2 ^ 31 → live.operation ≡ operation → live.requests ≡ [] → DoesJob shape clock (Deletes id) live.op [] → BeginsAs shape clock operation (Begun.Delete (Some id)) (Stage.UnderWay live)
+delete_begins shape clock operation id live l same none does = λ r i w c e. job_owned shape r clock operation (Deletes id) live l same none does tt i w c e
 
 -- what is neither composite nor a chunk is simple
 pub simple_else : (id : BlobId) → is_composite id ≡ false → is_chunk id ≡ false → is_simple id ≡ true
@@ -130,22 +225,6 @@ simple_else id c k = go (kind_of id) c k
     go Kind.Simple c k = refl
     go Kind.Composite c k = absurd cc
     go Kind.Chunk c k = absurd cc
-
-pub no_partition_begins : (shape : Shape) (operation : ℕ) (id : BlobId) → operation < 2 ^ 31 → is_simple id ≡ true → shape.partitions ≤ partition_of id → BeginsAs shape operation (Begun.Get (Some id) None []) (Stage.Over operation Outcome.NoPartition)
-no_partition_begins shape operation id l s p = λ r i e. over_owned shape r operation (Begun.Get (Some id) None []) Outcome.NoPartition i e l (id, refl, inl s, p) (λ x. absurd cc)
-
-pub get_begins : (shape : Shape) (operation : ℕ) (id : BlobId) (live : Live) → operation < 2 ^ 31 → is_simple id ≡ true → partition_of id < shape.partitions → live ≡ new_live operation id (Body.Get id) live.piece
-    → ((record' : Record) → AsksNothing (read_piece operation Top id) record' → OwnsPiece shape (read_piece operation Top id) record' live.piece) → BeginsAs shape operation (Begun.Get (Some id) None []) (Stage.UnderWay live)
-get_begins shape operation id live l s p v owns = λ r i e.
-    let begun : Begun = Begun.Get (Some id) None [] in
-    let there : OwnsLive shape (Marked (Begin operation begun) ∷ r) (new_live operation id (Body.Get id) live.piece) = record {
-      begun = begun;
-      then = r;
-      under_way = begins_next shape r operation begun i e l;
-      asks = (refl, refl, s, p);
-      owns = owns (Marked (Begin operation begun) ∷ r) (asks_nothing shape r operation begun (read_piece operation Top id) i e refl);
-    } in
-    subst (λ (x : Live). OwnsLive shape (Marked (Begin operation begun) ∷ r) x) (sym v) there
 
 all_session : (operation : ℕ) (begun : Begun) (stage : Stage) → AllSession (begin_items operation begun stage)
 all_session operation begun Stage.Idle = (refl, tt)
@@ -157,33 +236,34 @@ begin_marks operation begun Stage.Idle = refl
 begin_marks operation begun (Stage.UnderWay live) = refl
 begin_marks operation begun (Stage.Over number outcome) = refl
 
-begin_clock : (operation : ℕ) (begun : Begun) (stage : Stage) (r : Record) → clock_of (begin_items operation begun stage ++ r) ≡ clock_of r
-begin_clock operation begun Stage.Idle r = refl
-begin_clock operation begun (Stage.UnderWay live) r = refl
-begin_clock operation begun (Stage.Over number outcome) r = refl
+begin_counts : (clock events count operation : ℕ) (begun : Begun) (stage : Stage) (r : Record) → Counts clock events count r → Counts clock events (count + 1) (begin_items operation begun stage ++ r)
+begin_counts clock events count operation begun stage r c = go stage
+  where
+    one : Counts clock events (count + 1) (Marked (Begin operation begun) ∷ r)
+    one = record { clock_is = c.clock_is; events_are = c.events_are; begun_are = let b = c.begun_are in omega (arith, b); aims = within_stays (Marked (Begin operation begun)) r (λ x p a e. absurd cc) (omega arith) c.aims }
 
-begin_events : (operation : ℕ) (begun : Begun) (stage : Stage) (r : Record) → events_in (begin_items operation begun stage ++ r) ≡ events_in r
-begin_events operation begun Stage.Idle r = refl
-begin_events operation begun (Stage.UnderWay live) r = refl
-begin_events operation begun (Stage.Over number outcome) r = refl
+    go : (stage : Stage) → Counts clock events (count + 1) (begin_items operation begun stage ++ r)
+    go Stage.Idle = one
+    go (Stage.UnderWay live) = one
+    go (Stage.Over number outcome) = record {
+      clock_is = c.clock_is;
+      events_are = c.events_are;
+      begun_are = let b = c.begun_are in omega (arith, b);
+      aims = within_stays (Decided operation outcome) (Marked (Begin operation begun) ∷ r) (λ x p a e. absurd cc) (omega arith) (within_stays (Marked (Begin operation begun)) r (λ x p a e. absurd cc) (omega arith) c.aims);
+    }
 
-begin_count : (operation : ℕ) (begun : Begun) (stage : Stage) (r : Record) → begun_in (begin_items operation begun stage ++ r) ≡ 1 + begun_in r
-begin_count operation begun Stage.Idle r = refl
-begin_count operation begun (Stage.UnderWay live) r = refl
-begin_count operation begun (Stage.Over number outcome) r = refl
-
-pub ties_begun : (old : RouterView) (begun : Begun) (stage : Stage) (told : Option (List Called)) (marks : List HistoryMark) → is_idle old.stage ≡ true → BeginsAs old.shape (old.begun + 1) begun stage → Ties (Owns old) told marks
+pub ties_begun : (old : RouterView) (begun : Begun) (stage : Stage) (told : Option (List Called)) (marks : List HistoryMark) → is_idle old.stage ≡ true → BeginsAs old.shape old.clock (old.begun + 1) begun stage → Ties (Owns old) told marks
     → Ties (Owns (record { shape = old.shape; clock = old.clock; events = old.events; begun = old.begun + 1; stage = stage })) told (Begin (old.begun + 1) begun ∷ marks)
 ties_begun old begun stage told marks idle begins t =
     let new : RouterView = record { shape = old.shape; clock = old.clock; events = old.events; begun = old.begun + 1; stage = stage } in
     let n : ℕ = old.begun + 1 in
     subst (λ (m : List HistoryMark). Ties (Owns new) told (m ++ marks)) (begin_marks n begun stage)
     (tie_items (Owns old) (Owns new) (begin_items n begun stage) told marks (all_session n begun stage)
-    (λ r o. record {
-      clock = o.clock ∙ sym (begin_clock n begun stage r);
-      events = o.events ∙ sym (begin_events n begun stage r);
-      begun = omega (arith, o.begun, begin_count n begun stage r);
-      stage = begins r (idle_record old.shape r old.stage idle o.stage) (omega (arith, o.begun));
+    (λ r o.
+    let c = o.counts in
+    record {
+      counts = begin_counts old.clock old.events old.begun n begun stage r c;
+      stage = begins r (idle_record old.shape r old.stage idle o.stage) c.aims c.clock_is (let b = c.begun_are in omega (arith, b));
     })
     t)
 

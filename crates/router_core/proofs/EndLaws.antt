@@ -1,109 +1,79 @@
--- What a router keeps goes on where its operation is over, and where it ends.
-use Rattle.std.proofs.Common.{◌≡◌, ◌≢◌, ℕ, ◌+◌, true, false, List, [], ◌++◌, Option, Some, None, IfSome, IsNone, ◌↔◌, refl, sym, ◌∙◌, subst}
-use Rattle.quorum_op.specs.declared.cause.Verdict.{Verdict}
+-- What a router keeps goes on where its operation is settled, and where it ends.
+use Rattle.std.proofs.Common.{◌≡◌, ℕ, true, false, List, [], ◌∷◌, ◌++◌, Option, Some, None, IfSome, IsNone, ◌↔◌, refl, sym, ap, subst, arith, ◌⊎◌, inl, inr}
 use Rattle.quorum_op.specs.declared.outcome.Outcome.{Outcome}
 use Rattle.world_model.specs.declared.history.HistoryMark.{HistoryMark}
+use Rattle.world_model.specs.declared.history.HistoryMark.TheVariants.{End}
 use Rattle.world_model.specs.declared.shape.Shape.{Shape}
 use Rattle.world_model.specs.declared.step.Called.{Called}
-use Rattle.world_model.specs.Notes.{clock_of, events_in, verdict_of}
 use Rattle.world_model.specs.Ordered.{marks_of}
-use Rattle.world_model.specs.Outcomes.{Follows}
-use Rattle.world_model.specs.Record.{Record}
-use Rattle.world_model.specs.Router.{begun_in}
+use Rattle.world_model.specs.Record.{Marked, Decided, Record}
 use Rattle.world_model.specs.Told.{AllSession}
 use Rattle.router_core.specs.declared.ending.Ended.{Ended}
 use Rattle.router_core.specs.declared.live.Live.{Live}
 use Rattle.router_core.specs.declared.router.Stage.{Stage}
-use Rattle.router_core.specs.Ending.{RestsAs, decided_items, end_items, end_of}
+use Rattle.router_core.specs.Ending.{end_items, end_of}
 use Rattle.router_core.specs.Fits.{FitsStage, IsAnswer, RouterView}
 use Rattle.router_core.specs.Stages.{simple_rules}
-use Rattle.router_core.specs.Stands.{HasSent, OwnsLive, OwnsStage, Stands, StageSent, StageWaits, end_marks, is_idle, is_under_way, piece_of}
+use Rattle.router_core.specs.Stands.{At, Counts, Leaves, Owns, OwnsLive, OwnsStage, RestsStage, Stands, StageWaits, Waits, end_marks, is_idle, is_under_way}
 use Rattle.router_core.specs.Ties.{Ties}
-use Rattle.router_core.proofs.StageLaws.{decides, ends}
-use Rattle.router_core.proofs.TieLaws.{tie_items}
+use Rattle.router_core.proofs.AimLaws.{within_stays}
+use Rattle.router_core.proofs.StageLaws.{ends}
+use Rattle.router_core.proofs.TieLaws.{tie_items, tie_same}
 
-not_cancelled : (shape : Shape) (outcome : Outcome) → IsAnswer shape outcome → outcome ≢ Outcome.Cancelled
-not_cancelled shape outcome answer e = let z : IsAnswer shape Outcome.Cancelled = subst (λ (o : Outcome). IsAnswer shape o) e answer in absurd z
+-- ---- what is settled
 
--- an operation under way is over by an outcome that follows
-pub over_rests : (shape : Shape) (r : Record) (old : Stage) (live : Live) (outcome : Outcome) → old ≡ Stage.UnderWay live → IsAnswer shape outcome
-    → ((owns : OwnsLive shape r live) → Follows (simple_rules shape) r live.operation owns.begun outcome) → OwnsStage shape r old → RestsAs shape r old (Stage.Over live.operation outcome)
-over_rests shape r old live outcome is answer follows owns =
-    let o : OwnsLive shape r live = subst (λ (s : Stage). OwnsStage shape r s) is owns in
-    subst (λ (s : Stage). RestsAs shape r s (Stage.Over live.operation outcome)) (sym is)
-    (decides (simple_rules shape) r live.operation o.begun o.then (live.asked + 1) outcome o.under_way (follows o) (not_cancelled shape outcome answer), tt)
+counts_decided : (clock events begun operation : ℕ) (outcome : Outcome) (r : Record) → Counts clock events begun r → Counts clock events begun (Decided operation outcome ∷ r)
+counts_decided clock events begun operation outcome r c =
+    record { clock_is = c.clock_is; events_are = c.events_are; begun_are = c.begun_are; aims = within_stays (Decided operation outcome) r (λ x p a e. absurd cc) (omega arith) c.aims }
 
--- one that is pending waits
-pub pending_rests : (shape : Shape) (r : Record) (old new : Stage) (live : Live) → old ≡ Stage.UnderWay live → new ≡ Stage.UnderWay live
-    → (OwnsLive shape r live → verdict_of shape (piece_of live) r ≡ Verdict.Pending) → OwnsStage shape r old → StageSent shape r old → RestsAs shape r old new
-pending_rests shape r old new live is still pending owns sent =
-    let o : OwnsLive shape r live = subst (λ (s : Stage). OwnsStage shape r s) is owns in
-    let s : StageSent shape r (Stage.UnderWay live) = subst (λ (s : Stage). StageSent shape r s) is sent in
-    subst (λ (a : Stage). RestsAs shape r a new) (sym is) (subst (λ (b : Stage). RestsAs shape r (Stage.UnderWay live) b) (sym still) (o, record { pending = pending o; sent = s (pending o) }))
+-- an operation is over
+pub ties_over : (shape : Shape) (clock events begun : ℕ) (old new : Live) (outcome : Outcome) (told : Option (List Called)) (marks : List HistoryMark)
+    → ((r : Record) → OwnsLive shape r old [] → Leaves shape (Decided old.operation outcome ∷ r) new outcome []) → Ties (At (λ r. OwnsLive shape r old []) clock events begun) told marks → Ties (At (λ r. Leaves shape r new outcome []) clock events begun) told marks
+ties_over shape clock events begun old new outcome told marks over t =
+    tie_items (At (λ r. OwnsLive shape r old []) clock events begun) (At (λ r. Leaves shape r new outcome []) clock events begun) (Decided old.operation outcome ∷ []) told marks (refl, tt)
+    (λ r h. (counts_decided clock events begun old.operation outcome r h.0, over r h.1)) t
 
--- any other stage rests as it is
-pub idle_rests : (shape : Shape) (r : Record) (stage : Stage) → stage ≡ Stage.Idle → OwnsStage shape r stage → RestsAs shape r stage stage
-idle_rests shape r stage is owns = subst (λ (s : Stage). RestsAs shape r s s) (sym is) (subst (λ (s : Stage). OwnsStage shape r s) is owns, tt)
+-- a stage with an operation under way, as it was and as it rests
+pub ties_staged : (shape : Shape) (clock events begun : ℕ) (stage : Stage) (live : Live) (told : Option (List Called)) (marks : List HistoryMark) → stage ≡ Stage.UnderWay live → Ties (At (λ r. OwnsStage shape r stage) clock events begun) told marks
+    → Ties (At (λ r. OwnsLive shape r live []) clock events begun) told marks
+ties_staged shape clock events begun stage live told marks is t = subst (λ (s : Stage). Ties (At (λ r. OwnsStage shape r s) clock events begun) told marks) is t
 
-pub done_rests : (shape : Shape) (r : Record) (stage : Stage) (operation : ℕ) (outcome : Outcome) → stage ≡ Stage.Over operation outcome → OwnsStage shape r stage → RestsAs shape r stage stage
-done_rests shape r stage operation outcome is owns = subst (λ (s : Stage). RestsAs shape r s s) (sym is) (subst (λ (s : Stage). OwnsStage shape r s) is owns, tt)
+pub ties_waits : (shape : Shape) (clock events begun : ℕ) (live : Live) (stage : Stage) (told : Option (List Called)) (marks : List HistoryMark) → stage ≡ Stage.UnderWay live → Ties (At (λ r. Waits shape r live) clock events begun) told marks
+    → Ties (At (λ r. RestsStage shape r stage) clock events begun) told marks
+ties_waits shape clock events begun live stage told marks is t =
+    subst (λ (s : Stage). Ties (At (λ r. RestsStage shape r s) clock events begun) told marks) (sym is)
+    (tie_same (At (λ r. Waits shape r live) clock events begun) (At (λ r. RestsStage shape r (Stage.UnderWay live)) clock events begun) told marks t (λ r h. (h.0, (h.1.0, h.1))))
 
--- what was decided is the session's, no mark, and changes neither the clock nor a number
-decided_session : (old new : Stage) → AllSession (decided_items old new)
-decided_session Stage.Idle new = tt
-decided_session (Stage.Over operation outcome) new = tt
-decided_session (Stage.UnderWay live) Stage.Idle = tt
-decided_session (Stage.UnderWay live) (Stage.UnderWay other) = tt
-decided_session (Stage.UnderWay live) (Stage.Over operation outcome) = (refl, tt)
+pub ties_left : (shape : Shape) (clock events begun : ℕ) (live : Live) (outcome : Outcome) (told : Option (List Called)) (marks : List HistoryMark) → Ties (At (λ r. Leaves shape r live outcome []) clock events begun) told marks
+    → Ties (At (λ r. RestsStage shape r (Stage.Over live.operation outcome)) clock events begun) told marks
+ties_left shape clock events begun live outcome told marks t =
+    tie_same (At (λ r. Leaves shape r live outcome []) clock events begun) (At (λ r. RestsStage shape r (Stage.Over live.operation outcome)) clock events begun) told marks t (λ r h. (h.0, (h.1.over, tt)))
 
-decided_marks : (old new : Stage) → marks_of (decided_items old new) ≡ []
-decided_marks Stage.Idle new = refl
-decided_marks (Stage.Over operation outcome) new = refl
-decided_marks (Stage.UnderWay live) Stage.Idle = refl
-decided_marks (Stage.UnderWay live) (Stage.UnderWay other) = refl
-decided_marks (Stage.UnderWay live) (Stage.Over operation outcome) = refl
+rests_idle : (shape : Shape) (r : Record) (stage : Stage) → is_under_way stage ≡ false → OwnsStage shape r stage → RestsStage shape r stage
+rests_idle shape r Stage.Idle h o = (o, tt)
+rests_idle shape r (Stage.UnderWay live) h o = absurd cc
+rests_idle shape r (Stage.Over operation outcome) h o = (o, tt)
 
-decided_clock : (old new : Stage) (r : Record) → clock_of (decided_items old new ++ r) ≡ clock_of r
-decided_clock Stage.Idle new r = refl
-decided_clock (Stage.Over operation outcome) new r = refl
-decided_clock (Stage.UnderWay live) Stage.Idle r = refl
-decided_clock (Stage.UnderWay live) (Stage.UnderWay other) r = refl
-decided_clock (Stage.UnderWay live) (Stage.Over operation outcome) r = refl
+pub ties_rest : (shape : Shape) (clock events begun : ℕ) (stage : Stage) (told : Option (List Called)) (marks : List HistoryMark) → is_under_way stage ≡ false → Ties (At (λ r. OwnsStage shape r stage) clock events begun) told marks
+    → Ties (At (λ r. RestsStage shape r stage) clock events begun) told marks
+ties_rest shape clock events begun stage told marks h t = tie_same (At (λ r. OwnsStage shape r stage) clock events begun) (At (λ r. RestsStage shape r stage) clock events begun) told marks t (λ r o. (o.0, rests_idle shape r stage h o.1))
 
-decided_events : (old new : Stage) (r : Record) → events_in (decided_items old new ++ r) ≡ events_in r
-decided_events Stage.Idle new r = refl
-decided_events (Stage.Over operation outcome) new r = refl
-decided_events (Stage.UnderWay live) Stage.Idle r = refl
-decided_events (Stage.UnderWay live) (Stage.UnderWay other) r = refl
-decided_events (Stage.UnderWay live) (Stage.Over operation outcome) r = refl
+pub not_under_way : (stage : Stage) → (stage ≡ Stage.Idle) ⊎ ((operation : ℕ) × (outcome : Outcome) × (stage ≡ Stage.Over operation outcome)) → is_under_way stage ≡ false
+not_under_way stage h = elim h [ inl e ↦ ap (λ (s : Stage). is_under_way s) e | inr o ↦ ap (λ (s : Stage). is_under_way s) o.2 ]
 
-decided_begun : (old new : Stage) (r : Record) → begun_in (decided_items old new ++ r) ≡ begun_in r
-decided_begun Stage.Idle new r = refl
-decided_begun (Stage.Over operation outcome) new r = refl
-decided_begun (Stage.UnderWay live) Stage.Idle r = refl
-decided_begun (Stage.UnderWay live) (Stage.UnderWay other) r = refl
-decided_begun (Stage.UnderWay live) (Stage.Over operation outcome) r = refl
-
--- so a router that has sent what is wanted rests behind its decision
-pub decided_stands : (old new : RouterView) (told : Option (List Called)) (marks : List HistoryMark) → new.shape ≡ old.shape → new.clock ≡ old.clock → new.events ≡ old.events → new.begun ≡ old.begun
-    → ((r : Record) → OwnsStage old.shape r old.stage → StageSent old.shape r old.stage → RestsAs old.shape r old.stage new.stage) → Ties (HasSent old) told marks → Ties (Stands new) told marks
-decided_stands old new told marks shape clock events begun rests ties =
-    let items : Record = decided_items old.stage new.stage in
-    subst (λ (m : List HistoryMark). Ties (Stands new) told (m ++ marks)) (decided_marks old.stage new.stage)
-    (tie_items (HasSent old) (Stands new) items told marks (decided_session old.stage new.stage)
-    (λ r sent.
-    let owns = sent.owns in
-    let at = rests r owns.stage sent.sent in
-    record {
+-- the router around its stage
+pub ties_settled : (old new : RouterView) (told told' : Option (List Called)) (marks : List HistoryMark) → new.shape ≡ old.shape → new.clock ≡ old.clock → new.events ≡ old.events → new.begun ≡ old.begun
+    → (Ties (At (λ r. OwnsStage old.shape r old.stage) old.clock old.events old.begun) told marks → Ties (At (λ r. RestsStage old.shape r new.stage) old.clock old.events old.begun) told' marks) → Ties (Owns old) told marks → Ties (Stands new) told' marks
+ties_settled old new told told' marks shape clock events begun settles t =
+    let inner = settles (tie_same (Owns old) (At (λ r. OwnsStage old.shape r old.stage) old.clock old.events old.begun) told marks t (λ r o. (o.counts, o.stage))) in
+    tie_same (At (λ r. RestsStage old.shape r new.stage) old.clock old.events old.begun) (Stands new) told' marks inner
+    (λ r h. record {
       owns = record {
-        clock = clock ∙ (owns.clock ∙ sym (decided_clock old.stage new.stage r));
-        events = events ∙ (owns.events ∙ sym (decided_events old.stage new.stage r));
-        begun = begun ∙ (owns.begun ∙ sym (decided_begun old.stage new.stage r));
-        stage = subst (λ (s : Shape). OwnsStage s (items ++ r) new.stage) (sym shape) at.0;
+        counts = subst (λ (n : ℕ). Counts n new.events new.begun r) (sym clock) (subst (λ (n : ℕ). Counts old.clock n new.begun r) (sym events) (subst (λ (n : ℕ). Counts old.clock old.events n r) (sym begun) h.0));
+        stage = subst (λ (s : Shape). OwnsStage s r new.stage) (sym shape) h.1.0;
       };
-      waits = subst (λ (s : Shape). StageWaits s (items ++ r) new.stage) (sym shape) at.1;
+      waits = subst (λ (s : Shape). StageWaits s r new.stage) (sym shape) h.1.1;
     })
-    ties)
 
 -- ---- the end
 
@@ -115,17 +85,10 @@ end_marked : (ended : Option Ended) → marks_of (end_items ended) ≡ end_marks
 end_marked None = refl
 end_marked (Some ended) = refl
 
-end_clock : (ended : Option Ended) (r : Record) → clock_of (end_items ended ++ r) ≡ clock_of r
-end_clock None r = refl
-end_clock (Some ended) r = refl
-
-end_events : (ended : Option Ended) (r : Record) → events_in (end_items ended ++ r) ≡ events_in r
-end_events None r = refl
-end_events (Some ended) r = refl
-
-end_begun : (ended : Option Ended) (r : Record) → begun_in (end_items ended ++ r) ≡ begun_in r
-end_begun None r = refl
-end_begun (Some ended) r = refl
+end_counts : (clock events begun : ℕ) (ended : Option Ended) (r : Record) → Counts clock events begun r → Counts clock events begun (end_items ended ++ r)
+end_counts clock events begun None r c = c
+end_counts clock events begun (Some ended) r c =
+    record { clock_is = c.clock_is; events_are = c.events_are; begun_are = c.begun_are; aims = within_stays (Marked (End ended.operation ended.outcome)) r (λ x p a e. absurd cc) (omega arith) c.aims }
 
 stage_ends : (shape : Shape) (r : Record) (stage : Stage) → is_under_way stage ≡ false → OwnsStage shape r stage → OwnsStage shape (end_items (end_of stage) ++ r) Stage.Idle
 stage_ends shape r Stage.Idle rest owns = owns
@@ -141,11 +104,10 @@ ended_stands old new told marks shape clock events begun idle rest ties =
     (tie_items (Stands old) (Stands new) (end_items ended) told marks (end_session ended)
     (λ r stands.
     let owns = stands.owns in
+    let c = end_counts old.clock old.events old.begun ended r owns.counts in
     record {
       owns = record {
-        clock = clock ∙ (owns.clock ∙ sym (end_clock ended r));
-        events = events ∙ (owns.events ∙ sym (end_events ended r));
-        begun = begun ∙ (owns.begun ∙ sym (end_begun ended r));
+        counts = subst (λ (n : ℕ). Counts n new.events new.begun (end_items ended ++ r)) (sym clock) (subst (λ (n : ℕ). Counts old.clock n new.begun (end_items ended ++ r)) (sym events) (subst (λ (n : ℕ). Counts old.clock old.events n (end_items ended ++ r)) (sym begun) c));
         stage = subst (λ (s : Shape). OwnsStage s (end_items ended ++ r) new.stage) (sym shape) (subst (λ (s : Stage). OwnsStage old.shape (end_items ended ++ r) s) (sym idle) (stage_ends old.shape r old.stage rest owns.stage));
       };
       waits = subst (λ (s : Stage). StageWaits new.shape (end_items ended ++ r) s) (sym idle) tt;

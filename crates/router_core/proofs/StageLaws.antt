@@ -20,7 +20,7 @@ use Rattle.world_model.specs.Notes.{Aim, Asked, Piece, ask_as, asked_by, asked_n
 use Rattle.world_model.specs.Outcomes.{DrewNothing, IsWhole, Follows}
 use Rattle.world_model.specs.Pieces.{is_simple}
 use Rattle.world_model.specs.Record.{Part, Top, Item, Marked, Drawn, Aimed, Took, Given, Decided, Record, turns_in}
-use Rattle.world_model.specs.Router.{MaySend, MaySendFor, SendsFrame, SendsSome, RefusesSome, BeginsNext, Decides, DrawsPart, GoesFirst, Ends, IsDone, HasEnded, Keeps, IsKept, begun_in, number_of}
+use Rattle.world_model.specs.Router.{GaveUp, MaySend, MaySendFor, SendsFrame, SendsSome, RefusesSome, BeginsNext, Decides, DrawsPart, GoesFirst, Ends, IsDone, HasEnded, Keeps, IsKept, begun_in, number_of}
 use Rattle.world_model.specs.Rules.{Rules, in_turn}
 use Rattle.world_model.specs.Shape.{replica_of}
 use Rattle.world_model.specs.Told.{is_frame, is_network, AllNetwork}
@@ -88,17 +88,22 @@ under_way_quiet : (rules : Rules) (item : Item) (r : Record) (operation : ℕ) (
 under_way_quiet rules item r operation begun then next q u =
     under_way_on rules item r operation begun then next next q.steady q.decides (none_asked (λ a. (operation_of a.correlation ≡ operation) × (a.correlation < operation * 2 ^ 32 + next)) item r q.asks) (omega arith) u
 
-over_quiet : (rules : Rules) (item : Item) (r : Record) (operation : ℕ) (outcome : Outcome) → IsQuiet rules item r → IsOver rules r operation outcome → IsOver rules (item ∷ r) operation outcome
-over_quiet rules item r operation outcome q o = record {
-  going = going_quiet rules item r q o.going;
-  last = o.last ∙ sym q.steady.begins;
+-- what is over stays so by an item that decides and ends nothing, whose requests are of operations that began
+over_on : (rules : Rules) (item : Item) (r : Record) (operation : ℕ) (outcome : Outcome) → IsSteady rules item r → ((other : ℕ) (how : Outcome) → Decided other how ≡ item → ⊥) → ((other : ℕ) (how : Outcome) → Marked (End other how) ≡ item → ⊥)
+    → ((a : Asked) → Has (asked_now item r) a → operation_of a.correlation ≤ begun_in r) → IsOver rules r operation outcome → IsOver rules (item ∷ r) operation outcome
+over_on rules item r operation outcome s undecided unended now o = record {
+  going = going_on rules item r s now o.going;
+  last = o.last ∙ sym s.begins;
   decided = inr o.decided;
-  unended = λ e. elim e.1 [ inl x ↦ q.ends operation e.0 x | inr t ↦ o.unended (e.0, t) ];
+  unended = λ e. elim e.1 [ inl x ↦ unended operation e.0 x | inr t ↦ o.unended (e.0, t) ];
   ended = λ other how h. elim h [
-    | inl e ↦ absurd (q.decides other how e)
+    | inl e ↦ absurd (undecided other how e)
     | inr t ↦ elim (o.ended other how t) [ inl same ↦ inl same | inr x ↦ inr (inr x) ]
   ];
 }
+
+over_quiet : (rules : Rules) (item : Item) (r : Record) (operation : ℕ) (outcome : Outcome) → IsQuiet rules item r → IsOver rules r operation outcome → IsOver rules (item ∷ r) operation outcome
+over_quiet rules item r operation outcome q o = over_on rules item r operation outcome q.steady q.decides q.ends (none_asked (λ a. operation_of a.correlation ≤ begun_in r) item r q.asks) o
 
 -- ---- the network, what it gives, and waits
 
@@ -327,15 +332,15 @@ aimed_now r correlation part attempt = ap (λ (b : Bool). cond b (Some (record {
 pub record Sendable (rules : Rules) (r : Record) (operation next node : ℕ) (f : Frame) (aim : Aim) : Type 0 where
   pub number : f.correlation ≡ operation * 2 ^ 32 + next
   pub some : 0 < next
-  pub room : next + 1 < 2 ^ 32
+  pub room : next < 2 ^ 32
   pub stands : IsSome (replica_of rules.shape f.partition node)
   pub aimed : aim_of f.correlation r ≡ Some aim
   pub may : MaySendFor rules.shape r operation aim f.body
 
-operation_is : (f : Frame) (operation next : ℕ) → f.correlation ≡ operation * 2 ^ 32 + next → next + 1 < 2 ^ 32 → operation_of f.correlation ≡ operation
+operation_is : (f : Frame) (operation next : ℕ) → f.correlation ≡ operation * 2 ^ 32 + next → next < 2 ^ 32 → operation_of f.correlation ≡ operation
 operation_is f operation next e l = ap operation_of e ∙ div-mul-add operation (2 ^ 32) next (omega arith)
 
-request_is : (f : Frame) (operation next : ℕ) → f.correlation ≡ operation * 2 ^ 32 + next → next + 1 < 2 ^ 32 → request_of f.correlation ≡ next
+request_is : (f : Frame) (operation next : ℕ) → f.correlation ≡ operation * 2 ^ 32 + next → next < 2 ^ 32 → request_of f.correlation ≡ next
 request_is f operation next e l = ap request_of e ∙ mod-mul-add operation (2 ^ 32) next (omega arith)
 
 sends_frame : (rules : Rules) (r : Record) (operation : ℕ) (begun : Begun) (then : Record) (next node : ℕ) (f : Frame) (aim : Aim) → IsUnderWay rules r operation begun then next → Sendable rules r operation next node f aim → SendsFrame rules.shape r node f
@@ -419,6 +424,20 @@ may_get rules r operation id then next u whole within = (
   },
 )
 
+-- a delete may ask to delete its id, at the moment at which it began
+pub may_delete : (rules : Rules) (r : Record) (operation : ℕ) (id : BlobId) (then : Record) (next : ℕ) → IsUnderWay rules r operation (Begun.Delete (Some id)) then next → is_simple id ≡ true → partition_of id < rules.shape.partitions
+    → MaySendFor rules.shape r operation (record { part = Top; attempt = 0 }) (Body.Delete id (clock_of then))
+may_delete rules r operation id then next u simple within = (
+  refl,
+  record {
+    top = id;
+    asks = record { begun = Begun.Delete (Some id); then = then; began = u.began; names = refl; whole = inl simple; within = within; live = live rules r operation (Begun.Delete (Some id)) then next u };
+    delete = refl;
+    when = refl;
+    deletes = (refl, inl simple);
+  },
+)
+
 -- ---- how it ends
 
 -- The operation becomes done.
@@ -487,3 +506,81 @@ ends rules r operation outcome o = record {
       ];
       once = o.unended;
     }
+
+-- ---- what a put gives up
+
+-- the frame asks to delete what its operation, which is done, gives up
+pub record GivesUpNow (rules : Rules) (r : Record) (operation next node : ℕ) (f : Frame) (id : BlobId) : Type 0 where
+  pub number : f.correlation ≡ operation * 2 ^ 32 + next
+  pub some : 0 < next
+  pub room : next < 2 ^ 32
+  pub stands : IsSome (replica_of rules.shape f.partition node)
+  pub aimed : aim_of f.correlation r ≡ None
+  pub body : f.body ≡ Body.Delete id 0
+  pub gave : GaveUp rules.shape r operation id
+  pub below : (a : Asked) → Has (asked r) a → operation_of a.correlation ≡ operation → a.correlation < operation * 2 ^ 32 + next
+
+pub own_number : (f : Frame) (operation next : ℕ) → f.correlation ≡ operation * 2 ^ 32 + next → next < 2 ^ 32 → operation_of f.correlation ≡ operation
+own_number f operation next e l = ap operation_of e ∙ div-mul-add operation (2 ^ 32) next l
+
+sends_removal : (rules : Rules) (r : Record) (operation next node : ℕ) (f : Frame) (id : BlobId) → GivesUpNow rules r operation next node f id → SendsFrame rules.shape r node f
+sends_removal rules r operation next node f id g =
+    let own = own_number f operation next g.number g.room in
+    record {
+      rises = λ a h e. let b = g.below a h (e ∙ own) in omega (arith, b, g.number);
+      numbered = let n = ap request_of g.number ∙ mod-mul-add operation (2 ^ 32) next g.room in omega (arith, n, g.some);
+      stands = g.stands;
+      may = subst (λ (n : ℕ). MaySend rules.shape r n (aim_of f.correlation r) f.body) (sym own)
+          (subst (λ (o : Option Aim). MaySend rules.shape r operation o f.body) (sym g.aimed) (subst (λ (b : Body). MaySend rules.shape r operation None b) (sym g.body) (refl, g.gave)));
+    }
+
+asked_once : (rules : Rules) (item : Item) (r : Record) (operation next node : ℕ) (f : Frame) (id : BlobId) (outcome : Outcome) → IsOver rules r operation outcome → GivesUpNow rules r operation next node f id → asked_now item r ≡ ask_as f node r ∷ []
+    → (a : Asked) → Has (asked_now item r) a → (operation_of a.correlation ≡ operation) × (a.correlation ≡ operation * 2 ^ 32 + next)
+asked_once rules item r operation next node f id outcome o g one a h =
+    let only : Has (ask_as f node r ∷ []) a = subst (λ (l : List Asked). Has l a) one h in
+    elim only [
+      | inl e ↦ subst (λ (w : Asked). (operation_of w.correlation ≡ operation) × (w.correlation ≡ operation * 2 ^ 32 + next)) (sym e) (own_number f operation next g.number g.room, g.number)
+      | inr z ↦ absurd z
+    ]
+
+-- behind it more of the operation's requests have numbers below the next one
+asked_below : (item : Item) (r : Record) (operation next : ℕ) → ((a : Asked) → Has (asked_now item r) a → (operation_of a.correlation ≡ operation) × (a.correlation ≡ operation * 2 ^ 32 + next))
+    → ((a : Asked) → Has (asked r) a → operation_of a.correlation ≡ operation → a.correlation < operation * 2 ^ 32 + next)
+    → (a : Asked) → Has (asked (item ∷ r)) a → operation_of a.correlation ≡ operation → a.correlation < operation * 2 ^ 32 + (next + 1)
+asked_below item r operation next now before =
+    asked_on (λ a. operation_of a.correlation ≡ operation → a.correlation < operation * 2 ^ 32 + (next + 1)) item r (λ a h e. let n = now a h in omega (arith, n.1)) (λ a h e. let b = before a h e in omega (arith, b))
+
+-- What is over may delete what it gives up.
+pub removes : (rules : Rules) (r : Record) (operation next node : ℕ) (f : Frame) (id : BlobId) (outcome : Outcome) (bytes : List ℕ) → IsOver rules r operation outcome → GivesUpNow rules r operation next node f id → frame_in bytes ≡ Some f
+    → IsOver rules (Took (Step.Send 0 node bytes) ∷ r) operation outcome × ((a : Asked) → Has (asked (Took (Step.Send 0 node bytes) ∷ r)) a → operation_of a.correlation ≡ operation → a.correlation < operation * 2 ^ 32 + (next + 1))
+removes rules r operation next node f id outcome bytes o g reads =
+    let item : Item = Took (Step.Send 0 node bytes) in
+    let one : asked_now item r ≡ ask_as f node r ∷ [] = ap (λ (o : Option Frame). asked_by o node r) reads in
+    let now = asked_once rules item r operation next node f id outcome o g one in (
+      over_on rules item r operation outcome
+          (record {
+            keeps = λ z. subst (λ (o : Option Frame). SendsSome rules.shape r node o) (sym reads) (sends_removal rules r operation next node f id g, o.going.undrained node);
+            begins = refl;
+            drains = λ n. refl;
+          })
+          (λ other how e. cc e) (λ other how e. cc e) (λ a h. let n = now a h in omega (arith, n.0, o.last)) o,
+      asked_below item r operation next now g.below,
+    )
+
+pub removes_refused : (rules : Rules) (r : Record) (operation next node : ℕ) (f : Frame) (id : BlobId) (outcome : Outcome) (bytes : List ℕ) → IsOver rules r operation outcome → operation < 2 ^ 31 → GivesUpNow rules r operation next node f id → frame_in bytes ≡ Some f
+    → IsOver rules (Took (Step.Refused node bytes) ∷ r) operation outcome × ((a : Asked) → Has (asked (Took (Step.Refused node bytes) ∷ r)) a → operation_of a.correlation ≡ operation → a.correlation < operation * 2 ^ 32 + (next + 1))
+removes_refused rules r operation next node f id outcome bytes o small g reads =
+    let item : Item = Took (Step.Refused node bytes) in
+    let low : f.correlation < 2 ^ 63 = below f.correlation g.number g.room small in
+    let own : router_frame (frame_in bytes) ≡ Some f = ap router_frame reads ∙ ap (λ (b : Bool). cond b (Some f) None) (lt-ltb f.correlation (2 ^ 63) low) in
+    let one : asked_now item r ≡ ask_as f node r ∷ [] = ap (λ (o : Option Frame). asked_by o node r) own in
+    let now = asked_once rules item r operation next node f id outcome o g one in
+    let kept : RefusesSome rules.shape r node (frame_in bytes) (router_frame (frame_in bytes)) = subst (λ (o : Option Frame). RefusesSome rules.shape r node o (router_frame (frame_in bytes))) (sym reads)
+    (subst (λ (o : Option Frame). RefusesSome rules.shape r node (Some f) o) (sym own) (sends_removal rules r operation next node f id g, o.going.undrained node)) in (
+      over_on rules item r operation outcome (record { keeps = kept; begins = refl; drains = λ n. refl })
+          (λ other how e. cc e) (λ other how e. cc e) (λ a h. let n = now a h in omega (arith, n.0, o.last)) o,
+      asked_below item r operation next now g.below,
+    )
+  where
+    below : (c : ℕ) → c ≡ operation * 2 ^ 32 + next → next < 2 ^ 32 → operation < 2 ^ 31 → c < 2 ^ 63
+    below c e l m = omega arith

@@ -1,15 +1,16 @@
 -- What a router keeps to, whatever its network tells.
-use Rattle.std.specs.Prelude.{◌≡◌, ℕ, ◌^◌, ◌<◌, ◌≤◌, true, length}
-use Rattle.blob_id.specs.declared.id.BlobId.{BlobId}
-use Rattle.blob_id.specs.Blob.{IsBlob}
-use Rattle.blob_id.specs.Id.{IsId, partition_of}
+use Rattle.std.specs.Prelude.{◌≡◌, ℕ, ◌^◌, ◌<◌, true, List, [], ◌∷◌}
+use Rattle.blob_id.specs.Id.{partition_of}
+use Rattle.operation.specs.Calls.{Call, Cancelled}
 use Rattle.quorum_op.specs.declared.outcome.Outcome.{Outcome}
-use Rattle.req_frame.specs.declared.frame.Body.{Body}
 use Rattle.world_model.specs.declared.shape.Shape.{Shape}
 use Rattle.world_model.specs.Pieces.{is_simple}
 use Rattle.world_model.specs.Shape.{IsShape}
 use Rattle.router_core.specs.declared.live.Live.{Live}
+use Rattle.router_core.specs.declared.op.Op.{Op}
 use Rattle.router_core.specs.declared.router.Stage.{Stage}
+use Rattle.router_core.specs.Jobs.{Job, IsServed, WasGiven, id_of, plan_for}
+use Rattle.router_core.specs.Ops.{op_plan, op_stands}
 
 -- a router: its cluster, the greatest moment that was told in ms, how many events it took, how many operations began, and where it stands
 pub record RouterView : Type 0 where
@@ -19,23 +20,27 @@ pub record RouterView : Type 0 where
   pub begun : ℕ
   pub stage : Stage
 
--- a put under an id of a blob that can be sent, or a get of the id
-abbrev pub IsRequest : BlobId → Body → Type 0
-IsRequest id (Body.Put other blob) = (other ≡ id) × IsBlob blob
-IsRequest id (Body.Get other) = other ≡ id
-IsRequest id _ = ⊥
+-- it wasn't cancelled
+abbrev pub GoesUncancelled : List Call → Type 0
+GoesUncancelled [] = Unit {0}
+GoesUncancelled (Cancelled ∷ calls) = ⊥
+GoesUncancelled (call ∷ calls) = GoesUncancelled calls
 
--- The id of an operation is a simple one of a partition, each replica is asked once at most, and no more requests are open than were sent.
+-- The operation does this job, begun at this moment, for a simple id of a partition, and these calls brought it where it is.
+pub record DoesJob (shape : Shape) (moment : ℕ) (job : Job) (op : Op) (calls : List Call) : Type 0 where
+  pub plan : op_plan op ≡ plan_for shape moment job
+  pub stands : op_stands op calls
+  pub given : WasGiven shape moment job calls
+  pub served : IsServed shape (id_of job)
+  pub uncancelled : GoesUncancelled calls
+
+-- an operation under way does some job
 pub record FitsLive (shape : Shape) (live : Live) : Type 0 where
   pub number : live.operation < 2 ^ 31
-  pub asked : live.asked ≤ shape.replicas
-  pub id : IsId live.id
-  pub simple : is_simple live.id ≡ true
-  pub within : partition_of live.id < shape.partitions
-  pub place : live.frame.partition ≡ partition_of live.id
-  pub request : IsRequest live.id live.frame.body
-  pub replicas : live.piece.tally.replicas ≡ shape.replicas
-  pub few : length live.piece.requests ≤ live.asked
+  pub moment : ℕ
+  pub job : Job
+  pub calls : List Call
+  pub does : DoesJob shape moment job live.op calls
 
 -- An operation ends neither for want of memory nor cancelled, and a put's answer is a simple id of a partition.
 abbrev pub IsAnswer : Shape → Outcome → Type 0

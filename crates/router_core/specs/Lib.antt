@@ -1,8 +1,12 @@
 pub mod Ties
 pub mod Stages
+pub mod Ops
+pub mod Jobs
 pub mod Fits
 pub mod Stands
-pub mod Requests
+pub mod Answers
+pub mod Posting
 pub mod Beginning
 pub mod Turning
 pub mod Ending
+pub mod Requests

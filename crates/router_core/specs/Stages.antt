@@ -7,7 +7,7 @@ use Rattle.world_model.specs.declared.shape.Shape.{Shape}
 use Rattle.world_model.specs.Lists.{Has}
 use Rattle.world_model.specs.Notes.{Asked, asked, is_drained, operation_of}
 use Rattle.world_model.specs.Outcomes.{BeganAt}
-use Rattle.world_model.specs.Record.{Marked, Decided, Record}
+use Rattle.world_model.specs.Record.{Part, Marked, Aimed, Decided, Record}
 use Rattle.world_model.specs.Router.{IsKept, IsDone, HasEnded, begun_in}
 use Rattle.world_model.specs.Rules.{Rules, in_turn}
 
@@ -42,3 +42,16 @@ pub record IsOver (rules : Rules) (record' : Record) (operation : ℕ) (outcome 
   pub decided : Has record' (Decided operation outcome)
   pub unended : HasEnded record' operation → ⊥
   pub ended : (other : ℕ) (how : Outcome) → Has record' (Decided other how) → (other ≡ operation) ⊎ Has record' (Marked (End other how))
+
+-- It was said what requests are for, of operations that began.
+abbrev pub AimsWithin : Record → Type 0
+AimsWithin record' = (correlation : ℕ) (part : Part) (attempt : ℕ) → Has record' (Aimed correlation part attempt) → operation_of correlation ≤ begun_in record'
+
+-- and of an operation for requests with numbers below next
+abbrev pub AimsBelow : Record → ℕ → ℕ → Type 0
+AimsBelow record' operation next =
+    (correlation : ℕ) (part : Part) (attempt : ℕ) → Has record' (Aimed correlation part attempt) → operation_of correlation ≡ operation → correlation < operation * 2 ^ 32 + next
+
+-- its requests so far have numbers below next
+abbrev pub AsksBelow : Record → ℕ → ℕ → Type 0
+AsksBelow record' operation next = (a : Asked) → Has (asked record') a → operation_of a.correlation ≡ operation → a.correlation < operation * 2 ^ 32 + next

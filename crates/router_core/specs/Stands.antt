@@ -1,105 +1,107 @@
 -- What a router keeps, against the record of its session.
-use Rattle.std.specs.Prelude.{◌≡◌, ℕ, ◌+◌, ◌-◌, ◌<◌, min, Bool, true, false, cond, List, [], ◌∷◌, Option, Some, None}
-use Rattle.blob_id.specs.declared.id.BlobId.{BlobId}
-use Rattle.blob_id.specs.Id.{partition_of}
-use Rattle.quorum_op.specs.declared.cause.Verdict.{Verdict}
-use Rattle.req_frame.specs.declared.frame.Body.{Body}
-use Rattle.world_model.specs.declared.history.Begun.{Begun}
+use Rattle.std.specs.Prelude.{◌≡◌, ℕ, ◌+◌, ◌<◌, ◌≤◌, Bool, true, false, List, [], ◌∷◌, length, Option, Some, None}
+use Rattle.operation.specs.Calls.{Call}
+use Rattle.operation.specs.declared.sending.Sending.{Sending}
+use Rattle.operation.specs.Wants.{next_request}
+use Rattle.op_table.specs.Tied.{OwnsCalls}
+use Rattle.quorum_op.specs.declared.outcome.Outcome.{Outcome}
 use Rattle.world_model.specs.declared.history.HistoryMark.{HistoryMark}
 use Rattle.world_model.specs.declared.history.HistoryMark.TheVariants.{End}
 use Rattle.world_model.specs.declared.shape.Shape.{Shape}
-use Rattle.world_model.specs.Lists.{Has}
-use Rattle.world_model.specs.Notes.{Piece, clock_of, events_in, verdict_of}
-use Rattle.world_model.specs.Outcomes.{put_piece, read_piece}
-use Rattle.world_model.specs.Pieces.{is_simple}
-use Rattle.world_model.specs.Record.{Top, Drawn, Record}
+use Rattle.world_model.specs.Notes.{clock_of, events_in}
+use Rattle.world_model.specs.Record.{Record}
 use Rattle.world_model.specs.Router.{begun_in}
 use Rattle.router_core.specs.declared.ending.Ended.{Ended}
 use Rattle.router_core.specs.declared.live.Live.{Live}
 use Rattle.router_core.specs.declared.router.Stage.{Stage}
-use Rattle.router_core.specs.Fits.{RouterView}
-use Rattle.live_piece.specs.Piece.{busy_in, OwnsPiece}
-use Rattle.router_core.specs.Stages.{simple_rules, IsIdle, IsUnderWay, IsOver}
+use Rattle.router_core.specs.Fits.{DoesJob, RouterView}
+use Rattle.router_core.specs.Jobs.{Job, EachIs, GivesUp, GoOnFrom, GoesOn, HasDrawnId, IsForPiece, begun_as, piece_for, plan_for, target_for}
+use Rattle.router_core.specs.Stages.{simple_rules, AimsBelow, AimsWithin, AsksBelow, IsIdle, IsUnderWay, IsOver}
 
--- whether replicas are asked to put
-abbrev pub is_put : Body → Bool
-is_put (Body.Put id blob) = true
-is_put _ = false
+-- how many requests it wants at most of each replica, in the order of asking: every replica that there may be
+abbrev pub order : List ℕ
+order = 0 ∷ 1 ∷ 2 ∷ 3 ∷ 4 ∷ 5 ∷ 6 ∷ 7 ∷ 8 ∷ []
 
--- the piece that the replicas are asked for
-abbrev pub piece_for : ℕ → BlobId → Body → Piece
-piece_for operation id body = cond (is_put body) (put_piece operation Top 0 id) (read_piece operation Top id)
-
-abbrev pub piece_of : Live → Piece
-piece_of live = piece_for live.operation live.id live.frame.body
-
--- An operation that was begun so asks this of each replica: to put what it drew the id for, or to get the id that it names.
-abbrev pub Asks : Shape → Record → ℕ → BlobId → Body → Begun → Type 0
-Asks shape record' operation id (Body.Put other blob) begun =
-    (other ≡ id) × ((body : List ℕ) × (begun ≡ Begun.Put [] body 0 [] [])) × Has record' (Drawn operation Top 0 id blob)
-Asks shape record' operation id (Body.Get other) begun =
-    (other ≡ id) × (begun ≡ Begun.Get (Some id) None []) × (is_simple id ≡ true) × (partition_of id < shape.partitions)
-Asks shape record' operation id _ begun = ⊥
-
--- The live operation is the one that is under way in the record, and what is kept of its piece is what the record shows.
-pub record OwnsLive (shape : Shape) (record' : Record) (live : Live) : Type 0 where
-  pub begun : Begun
+-- The operation that is under way in the record does its job by these calls, and they are what the record shows. `rest` are requests that
+-- it added and that have not gone out yet.
+pub record OwnsLive (shape : Shape) (record' : Record) (live : Live) (rest : List Sending) : Type 0 where
+  pub job : Job
   pub then : Record
-  pub under_way : IsUnderWay (simple_rules shape) record' live.operation begun then (live.asked + 1)
-  pub asks : Asks shape record' live.operation live.id live.frame.body begun
-  pub owns : OwnsPiece shape (piece_of live) record' live.piece
+  pub calls : List Call
+  pub next : ℕ
+  pub from : ℕ
+  pub under_way : IsUnderWay (simple_rules shape) record' live.operation (begun_as job) then next
+  pub aims : AimsBelow record' live.operation next
+  pub drawn : HasDrawnId record' live.operation (clock_of then) job
+  pub does : DoesJob shape (clock_of then) job live.op calls
+  pub goes_on : GoesOn calls
+  pub owns : OwnsCalls shape (piece_for live.operation job) (target_for shape (clock_of then) job) record' live.requests calls rest
+  pub some : 0 < next
+  pub ahead : next ≤ from
+  pub numbered : GoOnFrom from rest
+  pub counted : from + length rest ≡ next_request calls
+  pub for_piece : EachIs (IsForPiece shape (clock_of then) job) rest
+
+-- what it has come to by its calls, and what it wants then
+abbrev pub outcome_now : {shape : Shape} {record' : Record} {live : Live} {rest : List Sending} → OwnsLive shape record' live rest → Option Outcome
+outcome_now {shape} owns = (plan_for shape (clock_of owns.then) owns.job).outcome owns.calls
+
+abbrev pub wants_now : {shape : Shape} {record' : Record} {live : Live} {rest : List Sending} → OwnsLive shape record' live rest → List Sending
+wants_now {shape} owns = (plan_for shape (clock_of owns.then) owns.job).wants owns.calls order
+
+-- the operation is pending
+abbrev pub IsPending : Shape → Record → Live → Type 0
+IsPending shape record' live = (owns : OwnsLive shape record' live []) × (outcome_now owns ≡ None)
+
+-- it is pending, and each request that it wants was sent
+abbrev pub Waits : Shape → Record → Live → Type 0
+Waits shape record' live = (owns : OwnsLive shape record' live []) × (outcome_now owns ≡ None) × (wants_now owns ≡ [])
+
+-- It is done so, and may still give up what it has drawn. `rest` are requests for that which have not gone out yet.
+pub record Leaves (shape : Shape) (record' : Record) (live : Live) (outcome : Outcome) (rest : List Sending) : Type 0 where
+  pub job : Job
+  pub moment : ℕ
+  pub calls : List Call
+  pub next : ℕ
+  pub from : ℕ
+  pub over : IsOver (simple_rules shape) record' live.operation outcome
+  pub asks : AsksBelow record' live.operation next
+  pub aims : AimsBelow record' live.operation next
+  pub drawn : HasDrawnId record' live.operation moment job
+  pub does : DoesJob shape moment job live.op calls
+  pub how : Outcome
+  pub came : (plan_for shape moment job).outcome calls ≡ Some how
+  pub same : (id : List ℕ) → outcome ≡ Outcome.Put id → how ≡ Outcome.Put id
+  pub some : 0 < next
+  pub ahead : next ≤ from
+  pub numbered : GoOnFrom from rest
+  pub counted : from + length rest ≡ next_request calls
+  pub giving : EachIs (GivesUp shape job how) rest
 
 abbrev pub OwnsStage : Shape → Record → Stage → Type 0
 OwnsStage shape record' Stage.Idle = IsIdle (simple_rules shape) record'
-OwnsStage shape record' (Stage.UnderWay live) = OwnsLive shape record' live
+OwnsStage shape record' (Stage.UnderWay live) = OwnsLive shape record' live []
 OwnsStage shape record' (Stage.Over operation outcome) = IsOver (simple_rules shape) record' operation outcome
 
--- the operation under way with the clock and the number of events, as a router keeps them
-pub record OwnsAt (shape : Shape) (clock events : ℕ) (live : Live) (record' : Record) : Type 0 where
-  pub clocks : clock ≡ clock_of record'
-  pub counts : events ≡ events_in record'
-  pub live_owns : OwnsLive shape record' live
+-- the clock, the number of events, and how many operations began, as a router keeps them
+pub record Counts (clock events begun : ℕ) (record' : Record) : Type 0 where
+  pub clock_is : clock ≡ clock_of record'
+  pub events_are : events ≡ events_in record'
+  pub begun_are : begun ≡ begun_in record'
+  pub aims : AimsWithin record'
+
+-- what is so, where the router keeps this beside it
+abbrev pub At : (Record → Type 0) → (clock events begun : ℕ) → Record → Type 0
+At holds clock events begun record' = Counts clock events begun record' × holds record'
 
 -- what the router keeps is what the record shows
 pub record Owns (router : RouterView) (record' : Record) : Type 0 where
-  pub clock : router.clock ≡ clock_of record'
-  pub events : router.events ≡ events_in record'
-  pub begun : router.begun ≡ begun_in record'
+  pub counts : Counts router.clock router.events router.begun record'
   pub stage : OwnsStage router.shape record' router.stage
-
--- How many more replicas are to be asked at once: all of them by a put, and by a get, as long as it is pending, as many as are needed beside
--- those that are asked or were found.
-abbrev pub wanted_by : Shape → (put pending : Bool) → (asked busy : ℕ) → ℕ
-wanted_by shape true pending asked busy = shape.replicas - asked
-wanted_by shape false true asked busy = min (shape.replicas - asked) (shape.get - busy)
-wanted_by shape false false asked busy = 0
-
--- what an operation under way may be at rest: its piece is pending, and each replica that is to be asked was asked
-pub record Waits (shape : Shape) (record' : Record) (live : Live) : Type 0 where
-  pub pending : verdict_of shape (piece_of live) record' ≡ Verdict.Pending
-  pub sent : wanted_by shape (is_put live.frame.body) true live.asked (busy_in live.piece) ≡ 0
 
 abbrev pub StageWaits : Shape → Record → Stage → Type 0
 StageWaits shape record' (Stage.UnderWay live) = Waits shape record' live
 StageWaits shape record' _ = Unit {0}
-
--- as long as the piece is pending, each replica that is to be asked was asked
-abbrev pub LiveSent : Shape → Record → Live → Type 0
-LiveSent shape record' live = verdict_of shape (piece_of live) record' ≡ Verdict.Pending → wanted_by shape (is_put live.frame.body) true live.asked (busy_in live.piece) ≡ 0
-
-abbrev pub StageSent : Shape → Record → Stage → Type 0
-StageSent shape record' (Stage.UnderWay live) = LiveSent shape record' live
-StageSent shape record' _ = Unit {0}
-
--- the operation under way, as a router keeps it once it has sent what is wanted
-pub record HasAsked (shape : Shape) (clock events : ℕ) (live : Live) (record' : Record) : Type 0 where
-  pub owns : OwnsAt shape clock events live record'
-  pub sent : LiveSent shape record' live
-
--- what a router keeps once it has sent what is wanted
-pub record HasSent (router : RouterView) (record' : Record) : Type 0 where
-  pub owns : Owns router record'
-  pub sent : StageSent router.shape record' router.stage
 
 -- A router at rest, between two calls: what it keeps is what the record shows, and an operation under way is pending, with each wanted request sent.
 pub record Stands (router : RouterView) (record' : Record) : Type 0 where
@@ -118,3 +120,17 @@ is_under_way _ = false
 abbrev pub end_marks : Option Ended → List HistoryMark
 end_marks None = []
 end_marks (Some ended) = End ended.operation ended.outcome ∷ []
+
+-- after requests were sent, or none was wanted
+abbrev pub after_asking : Shape → Record → Live → (more : Bool) → Type 0
+after_asking shape record' live true = OwnsLive shape record' live []
+after_asking shape record' live false = Waits shape record' live
+
+-- after what was wanted was sent: it waits, or it is over so
+abbrev pub after_settling : Shape → Record → Live → Option Outcome → Type 0
+after_settling shape record' live None = Waits shape record' live
+after_settling shape record' live (Some outcome) = Leaves shape record' live outcome []
+
+-- what the router keeps of a stage at rest
+abbrev pub RestsStage : Shape → Record → Stage → Type 0
+RestsStage shape record' stage = OwnsStage shape record' stage × StageWaits shape record' stage

@@ -1,6 +1,6 @@
 -- What an event is to a router's clock.
 use Rattle.std.specs.Prelude.{ℕ, max}
-use Rattle.live_piece.specs.declared.heard.Heard.{Heard}
+use Rattle.op_table.specs.declared.heard.Heard.{Heard}
 
 -- the greatest moment that was heard
 abbrev pub clock_after : Heard → ℕ → ℕ

@@ -1,6 +1,7 @@
 //! How operations begin.
 
-ghost use Rattle.std.specs.Prelude.{◌≡◌, ℕ, ◌+◌, ◌%◌, ◌^◌, ◌<◌, ◌≤◌, List, [], ◌∷◌, length, true, false, Option, Some, None, OnOk, IfSome};
+ghost use Rattle.std.specs.Prelude.{◌≡◌, ℕ, ◌+◌, ◌%◌, ◌^◌, ◌<◌, ◌≤◌, List, [], ◌∷◌, length, true, false, Option, Some, None, OnOk, IfOk, IfErr, IfSome};
+ghost use Rattle.blob_id.specs.declared.id.BlobId.{BlobId};
 ghost use Rattle.blob_id.specs.Id.{partition_of};
 ghost use Rattle.world_model.specs.declared.history.Begun.{Begun};
 ghost use Rattle.world_model.specs.declared.history.HistoryMark.{HistoryMark};
@@ -10,14 +11,15 @@ ghost use Rattle.world_model.specs.declared.step.Called.{Called};
 ghost use Rattle.world_model.specs.Fabric.{KeepsRun};
 ghost use Rattle.world_model.specs.Pieces.{is_chunk, is_composite, is_simple};
 ghost use Rattle.world_model.specs.Shape.{IsShape};
-ghost use Rattle.router_core.specs.Beginning.{BeginsAs};
-ghost use Rattle.router_core.specs.Fits.{FitsStage};
+ghost use Rattle.router_core.specs.Beginning.{BeginsAs, IsRefused};
+ghost use Rattle.router_core.specs.Fits.{FitsStage, IsAnswer};
+ghost use Rattle.router_core.specs.Jobs.{IsServed};
 ghost use Rattle.router_core.specs.Stands.{Owns, Stands, is_idle};
 ghost use Rattle.router_core.specs.Ties.{Ties};
 
 use crate::live::Live;
 use crate::router::{Router, Stage};
-use blob_id::{Blob, BlobId, Bytes, Kind, Memory};
+use blob_id::{BlobId, Bytes, Kind, Memory};
 use quorum_op::Outcome;
 use std::alloc::Global;
 use world_model::{Fabric, Shape};
@@ -49,8 +51,7 @@ impl Router {
         ensures falls { F.falls fabric.old fabric.new }
     {
         self.begin_put(alloc, id, body);
-        self.send_all(alloc, fabric)?;
-        self.decide(alloc)?;
+        self.settle(alloc, fabric)?;
         Ok(())
     }
 
@@ -66,13 +67,7 @@ impl Router {
         ensures busy { is_idle self.new.stage ≡ false }
         ensures shape { self.new.shape ≡ self.old.shape }
     {
-        let blob = Blob {
-            created: self.clock,
-            ctype: Bytes::new(alloc),
-            meta: Bytes::new(alloc),
-            body,
-        };
-        let live = Live::put(&self.shape, self.begun + 1, id, blob);
+        let live = Live::put(alloc, &self.shape, self.begun + 1, id, self.clock, body);
         self.begun += 1;
         self.stage = Stage::UnderWay(live);
     }
@@ -116,14 +111,13 @@ impl Router {
         ensures goes { OnOk result (F.goes fabric.old fabric.new) }
         ensures falls { F.falls fabric.old fabric.new }
     {
-        self.begin_get(id);
-        self.send_all(alloc, fabric)?;
-        self.decide(alloc)?;
+        self.begin_get(alloc, id);
+        self.settle(alloc, fabric)?;
         Ok(())
     }
 
     /// A get is under way, which has asked nothing yet, or is over at once.
-    fn begin_get(&mut self, id: Option<BlobId>)
+    fn begin_get(&mut self, alloc: Global, id: Option<BlobId>)
         requires idle { is_idle self.old.stage ≡ true }
         requires number { self.old.begun + 1 < 2 ^ 31 }
         requires whole { IfSome id (λ id. is_composite id ≡ false) }
@@ -132,51 +126,103 @@ impl Router {
         ensures busy { is_idle self.new.stage ≡ false }
         ensures shape { self.new.shape ≡ self.old.shape }
     {
-        self.stage = get_stage(&self.shape, self.begun + 1, id);
+        self.stage = get_stage(alloc, &self.shape, self.begun + 1, id);
+        self.begun += 1;
+    }
+
+    /// Begins a delete of an id, and asks all replicas. A delete that names no id, an id of a chunk, or one of no partition is over at once.
+    pub fn delete<F: Fabric>(
+        &mut self,
+        alloc: Global,
+        id: Option<BlobId>,
+        fabric: &mut F,
+    ) -> Result<(), Memory>
+        requires idle { is_idle self.old.stage ≡ true }
+        requires number { self.old.begun + 1 < 2 ^ 31 }
+        requires whole { IfSome id (λ id. is_composite id ≡ false) }
+        requires open { F.opened fabric.old ≡ Some self.old.shape }
+        ensures ties { OnOk result ((marks : List HistoryMark) → Ties (Stands self.old) (F.told fabric.old) marks → Ties (Stands self.new) (F.told fabric.new) (Begin (self.old.begun + 1) (Begun.Delete id) ∷ marks)) }
+        ensures begun { OnOk result (self.new.begun ≡ self.old.begun + 1) }
+        ensures busy { OnOk result (is_idle self.new.stage ≡ false) }
+        ensures shape { self.new.shape ≡ self.old.shape }
+        ensures opened { F.opened fabric.new ≡ F.opened fabric.old }
+        ensures later { F.faults fabric.old ≤ F.faults fabric.new }
+        ensures run { (cluster : Shape) (place : List ℕ) → KeepsRun (F.told fabric.old) (F.image fabric.old cluster place) (F.told fabric.new) (F.image fabric.new cluster place) }
+        ensures goes { OnOk result (F.goes fabric.old fabric.new) }
+        ensures falls { F.falls fabric.old fabric.new }
+    {
+        self.begin_delete(alloc, id);
+        self.settle(alloc, fabric)?;
+        Ok(())
+    }
+
+    /// A delete is under way, which has asked nothing yet, or is over at once.
+    fn begin_delete(&mut self, alloc: Global, id: Option<BlobId>)
+        requires idle { is_idle self.old.stage ≡ true }
+        requires number { self.old.begun + 1 < 2 ^ 31 }
+        requires whole { IfSome id (λ id. is_composite id ≡ false) }
+        ensures ties { (told : Option (List Called)) (marks : List HistoryMark) → Ties (Owns self.old) told marks → Ties (Owns self.new) told (Begin (self.old.begun + 1) (Begun.Delete id) ∷ marks) }
+        ensures begun { self.new.begun ≡ self.old.begun + 1 }
+        ensures busy { is_idle self.new.stage ≡ false }
+        ensures shape { self.new.shape ≡ self.old.shape }
+    {
+        self.stage = delete_stage(alloc, &self.shape, self.clock, self.begun + 1, id);
         self.begun += 1;
     }
 }
 
 /// Where a get begins.
-fn get_stage(shape: &Shape, operation: u32, id: Option<BlobId>) -> Stage
+fn get_stage(alloc: Global, shape: &Shape, operation: u32, id: Option<BlobId>) -> Stage
     requires shape { IsShape shape.now }
     requires number { operation < 2 ^ 31 }
     requires whole { IfSome id (λ id. is_composite id ≡ false) }
     ensures fits { FitsStage shape.now operation result }
     ensures busy { is_idle result ≡ false }
-    ensures owns { BeginsAs shape.now operation (Begun.Get id None []) result }
+    ensures owns { (clock : ℕ) → BeginsAs shape.now clock operation (Begun.Get id None []) result }
 {
-    match id {
-        Some(id) => get_named(shape, operation, id),
-        None => Stage::Over {
-            operation,
-            outcome: Outcome::NoId,
-        },
+    match served(shape, id) {
+        Ok(id) => Stage::UnderWay(Live::get(alloc, shape, operation, id)),
+        Err(outcome) => Stage::Over { operation, outcome },
     }
 }
 
-/// Where a get of an id begins that is named.
-fn get_named(shape: &Shape, operation: u32, id: BlobId) -> Stage
+/// Where a delete begins, at a moment in ms.
+fn delete_stage(
+    alloc: Global,
+    shape: &Shape,
+    clock: u64,
+    operation: u32,
+    id: Option<BlobId>,
+) -> Stage
     requires shape { IsShape shape.now }
     requires number { operation < 2 ^ 31 }
-    requires whole { is_composite id ≡ false }
+    requires whole { IfSome id (λ id. is_composite id ≡ false) }
     ensures fits { FitsStage shape.now operation result }
     ensures busy { is_idle result ≡ false }
-    ensures owns { BeginsAs shape.now operation (Begun.Get (Some id) None []) result }
+    ensures owns { BeginsAs shape.now clock operation (Begun.Delete id) result }
 {
+    match served(shape, id) {
+        Ok(id) => Stage::UnderWay(Live::delete(alloc, shape, operation, id, clock)),
+        Err(outcome) => Stage::Over { operation, outcome },
+    }
+}
+
+/// The id, where it is one of a whole blob in a partition, or else how an operation on it ends.
+fn served(shape: &Shape, id: Option<BlobId>) -> Result<BlobId, Outcome>
+    requires whole { IfSome id (λ id. is_composite id ≡ false) }
+    ensures ok { IfOk result (λ named. (id ≡ Some named) × IsServed shape.now named) }
+    ensures err { IfErr result (λ outcome. IsRefused shape.now id outcome × IsAnswer shape.now outcome) }
+{
+    let Some(id) = id else {
+        return Err(Outcome::NoId);
+    };
     if is_chunk(id) {
-        return Stage::Over {
-            operation,
-            outcome: Outcome::NotWhole,
-        };
+        return Err(Outcome::NotWhole);
     }
     if u32::from(id.partition()) >= shape.partitions {
-        return Stage::Over {
-            operation,
-            outcome: Outcome::NoPartition,
-        };
+        return Err(Outcome::NoPartition);
     }
-    Stage::UnderWay(Live::get(shape, operation, id))
+    Ok(id)
 }
 
 fn is_chunk(id: BlobId) -> bool

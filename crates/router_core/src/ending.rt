@@ -1,20 +1,20 @@
 //! How operations end.
 
-ghost use Rattle.std.specs.Prelude.{◌≡◌, ◌≢◌, ℕ, ◌≤◌, ◌++◌, List, Option, true, false, Some, OnOk, IfOk, IfSome, IsNone, ◌↔◌};
+ghost use Rattle.std.specs.Prelude.{◌≡◌, ◌≢◌, ℕ, ◌≤◌, ◌++◌, List, [], Option, true, false, Some, OnOk, IfOk, IfSome, IsNone, ◌↔◌};
 ghost use Rattle.quorum_op.specs.declared.outcome.Outcome.TheVariants as outcome;
 ghost use Rattle.world_model.specs.declared.history.HistoryMark.{HistoryMark};
 ghost use Rattle.world_model.specs.declared.shape.Shape.{Shape};
 ghost use Rattle.world_model.specs.declared.step.Called.{Called};
 ghost use Rattle.world_model.specs.Fabric.{KeepsRun};
-ghost use Rattle.world_model.specs.Record.{Record};
 ghost use Rattle.world_model.specs.Shape.{IsShape};
-ghost use Rattle.router_core.specs.Ending.{RestsAs, end_of};
-ghost use Rattle.router_core.specs.Fits.{FitsLive, FitsStage, IsAnswer};
 ghost use Rattle.router_core.specs.declared.live.Live.{Live};
 ghost use Rattle.router_core.specs.declared.router.Stage.TheVariants as variant;
-ghost use Rattle.router_core.specs.Stands.{HasSent, OwnsStage, StageSent, Stands, end_marks, is_idle, is_under_way};
+ghost use Rattle.router_core.specs.Ending.{end_of};
+ghost use Rattle.router_core.specs.Fits.{FitsLive, FitsStage, IsAnswer};
+ghost use Rattle.router_core.specs.Stands.{At, Owns, OwnsLive, OwnsStage, RestsStage, Stands, after_settling, end_marks, is_idle, is_under_way};
 ghost use Rattle.router_core.specs.Ties.{Ties};
 
+use crate::live::Live;
 use crate::router::{Router, Stage};
 use blob_id::Memory;
 use quorum_op::Outcome;
@@ -72,30 +72,56 @@ impl Router {
         end_of(mem::replace(&mut self.stage, Stage::Idle))
     }
 
-    /// The operation that is under way is over where its piece is pending no longer.
-    pub(crate) fn decide(&mut self, alloc: Global) -> Result<(), Memory>
-        ensures ties { OnOk result ((told : Option (List Called)) (marks : List HistoryMark) → Ties (HasSent self.old) told marks → Ties (Stands self.new) told marks) }
+    /// Sends what the operation under way wants, until it waits for replies or is over.
+    pub(crate) fn settle<F: Fabric>(&mut self, alloc: Global, fabric: &mut F) -> Result<(), Memory>
+        requires open { F.opened fabric.old ≡ Some self.old.shape }
+        ensures ties { OnOk result ((marks : List HistoryMark) → Ties (Owns self.old) (F.told fabric.old) marks → Ties (Stands self.new) (F.told fabric.new) marks) }
         ensures events { self.new.events ≡ self.old.events }
         ensures idle { is_idle self.new.stage ≡ is_idle self.old.stage }
         ensures begun { self.new.begun ≡ self.old.begun }
         ensures shape { self.new.shape ≡ self.old.shape }
+        ensures opened { F.opened fabric.new ≡ F.opened fabric.old }
+        ensures later { F.faults fabric.old ≤ F.faults fabric.new }
+        ensures run { (cluster : Shape) (place : List ℕ) → KeepsRun (F.told fabric.old) (F.image fabric.old cluster place) (F.told fabric.new) (F.image fabric.new cluster place) }
+        ensures goes { OnOk result (F.goes fabric.old fabric.new) }
+        ensures falls { F.falls fabric.old fabric.new }
     {
-        decide_stage(&mut self.stage, alloc, &self.shape)
+        settle_stage(
+            &mut self.stage,
+            alloc,
+            &self.shape,
+            self.clock,
+            self.events,
+            fabric,
+        )
     }
 }
 
-/// The operation that is under way is over where its piece is pending no longer.
-fn decide_stage(stage: &mut Stage, alloc: Global, shape: &Shape) -> Result<(), Memory>
+/// Sends what the operation under way wants, until it waits for replies or is over.
+fn settle_stage<F: Fabric>(
+    stage: &mut Stage,
+    alloc: Global,
+    shape: &Shape,
+    clock: u64,
+    events: u64,
+    fabric: &mut F,
+) -> Result<(), Memory>
+    requires open { F.opened fabric.old ≡ Some shape.now }
     requires shape { IsShape shape.now }
     requires fits { (live : Live) → stage.old ≡ variant.UnderWay live → FitsLive shape.now live }
-    ensures rests { OnOk result ((record' : Record) → OwnsStage shape.now record' stage.old → StageSent shape.now record' stage.old → RestsAs shape.now record' stage.old stage.new) }
+    ensures ties { OnOk result ((begun : ℕ) (marks : List HistoryMark) → Ties (At (λ r. OwnsStage shape.now r stage.old) clock events begun) (F.told fabric.old) marks → Ties (At (λ r. RestsStage shape.now r stage.new) clock events begun) (F.told fabric.new) marks) }
     ensures fits { (begun : ℕ) → FitsStage shape.now begun stage.old → FitsStage shape.now begun stage.new }
     ensures idle { is_idle stage.new ≡ is_idle stage.old }
+    ensures opened { F.opened fabric.new ≡ F.opened fabric.old }
+    ensures later { F.faults fabric.old ≤ F.faults fabric.new }
+    ensures run { (cluster : Shape) (place : List ℕ) → KeepsRun (F.told fabric.old) (F.image fabric.old cluster place) (F.told fabric.new) (F.image fabric.new cluster place) }
+    ensures goes { OnOk result (F.goes fabric.old fabric.new) }
+    ensures falls { F.falls fabric.old fabric.new }
 {
     match stage {
         Stage::UnderWay(live) => {
             let operation = live.operation;
-            match live.outcome(alloc, shape)? {
+            match settle_live(live, alloc, shape, clock, events, fabric)? {
                 Some(outcome) => {
                     *stage = Stage::Over { operation, outcome };
                     Ok(())
@@ -105,6 +131,37 @@ fn decide_stage(stage: &mut Stage, alloc: Global, shape: &Shape) -> Result<(), M
         }
         Stage::Idle => Ok(()),
         Stage::Over { .. } => Ok(()),
+    }
+}
+
+/// Sends what an operation wants, until it waits for replies, or is over and has given up what it drew. Gives how it is over then.
+fn settle_live<F: Fabric>(
+    live: &mut Live,
+    alloc: Global,
+    shape: &Shape,
+    clock: u64,
+    events: u64,
+    fabric: &mut F,
+) -> Result<Option<Outcome>, Memory>
+    requires open { F.opened fabric.old ≡ Some shape.now }
+    requires shape { IsShape shape.now }
+    requires fits { FitsLive shape.now live.old }
+    ensures ties { IfOk result (λ over. (begun : ℕ) (marks : List HistoryMark) → Ties (At (λ r. OwnsLive shape.now r live.old []) clock events begun) (F.told fabric.old) marks → Ties (At (λ r. after_settling shape.now r live.new over) clock events begun) (F.told fabric.new) marks) }
+    ensures answer { IfOk result (λ over. IfSome over (IsAnswer shape.now)) }
+    ensures fits { FitsLive shape.now live.new }
+    ensures operation { live.new.operation ≡ live.old.operation }
+    ensures opened { F.opened fabric.new ≡ F.opened fabric.old }
+    ensures later { F.faults fabric.old ≤ F.faults fabric.new }
+    ensures run { (cluster : Shape) (place : List ℕ) → KeepsRun (F.told fabric.old) (F.image fabric.old cluster place) (F.told fabric.new) (F.image fabric.new cluster place) }
+    ensures goes { OnOk result (F.goes fabric.old fabric.new) }
+    ensures falls { F.falls fabric.old fabric.new }
+{
+    match live.settle(alloc, shape, clock, events, fabric)? {
+        Some(outcome) => {
+            live.leave(alloc, shape, fabric)?;
+            Ok(Some(outcome))
+        }
+        None => Ok(None),
     }
 }
 

@@ -1,15 +1,17 @@
-//! A router of puts and gets, one at a time: it asks the replicas of a blob, and counts their replies.
+//! A router of puts, gets and deletes, one at a time: it asks the replicas of a blob, and counts their replies.
 #![tactic(auto)]
 
 mod beginning;
 mod ending;
 mod live;
+mod op;
 mod router;
 mod sending;
 mod turning;
 
 pub use ending::Ended;
 pub use live::Live;
+pub use op::Op;
 pub use router::{Router, Stage};
 
 #[cfg(test)]

@@ -1,4 +1,4 @@
-//! A put and a get over a network written by hand.
+//! Operations over a network written by hand.
 
 ghost use Rattle.std.specs.Prelude.{◌≡◌, ◌≤◌, length, Some, true, false, IfOk};
 ghost use Rattle.blob_id.specs.Id.{partition_of};
@@ -7,7 +7,7 @@ ghost use Rattle.world_model.specs.Shape.{IsShape};
 
 use super::*;
 use blob_id::{BlobId, Bytes, Kind, Memory};
-use quorum_op::Outcome;
+use quorum_op::{Cause, Outcome};
 use std::alloc::Global;
 use std::test::Fail;
 use world_model::{Event, Fabric, LogNumbers, SendFault, Shape, StartFault};
@@ -32,25 +32,32 @@ fn three_nodes() -> Shape
     }
 }
 
-/// A network whose nodes answer at once: a put is stored, and a get gives the blob that is held.
+/// A network whose nodes answer at once: a put as is said, a get with the blob that is held, and a delete that it is done.
 #[derive(Drop)]
 struct Echo {
     alloc: Global,
     fresh: bool,
     opened: Option<Shape>,
     held: Bytes,
+    /// The code of the reply to a put.
+    stored: u8,
     events: Vec<Event>,
     sent: u32,
 }
 
+/// The code of a reply that something is done.
+const DONE: u8 = 6;
+
 /// What an answer to a request says.
-fn answer_to(alloc: Global, held: &[u8], request: &[u8]) -> Result<Bytes, Memory> {
+fn answer_to(alloc: Global, held: &[u8], stored: u8, request: &[u8]) -> Result<Bytes, Memory> {
     let mut body = Bytes::new(alloc);
-    if request.get(3) == Some(&1) {
-        body.push(0)?;
-    } else {
-        body.push(4)?;
-        body.extend(held)?;
+    match request.get(3) {
+        Some(&1) => body.push(stored)?,
+        Some(&4) => body.push(DONE)?,
+        _ => {
+            body.push(4)?;
+            body.extend(held)?;
+        }
     }
     reply_frame(alloc, request, body.as_slice())
 }
@@ -59,7 +66,7 @@ impl Echo {
     fn answer(&mut self, node: u32, request: &[u8]) -> Result<(), Memory>
         ensures { self.new.opened ≡ self.old.opened }
     {
-        let frame = answer_to(self.alloc, self.held.as_slice(), request)?;
+        let frame = answer_to(self.alloc, self.held.as_slice(), self.stored, request)?;
         self.events.push(Event::Reply { node, frame })?;
         Ok(())
     }
@@ -152,6 +159,7 @@ fn opened(alloc: Global, shape: Shape) -> Result<Echo, Fail>
         fresh: false,
         opened: Some(shape),
         held: Bytes::copy_of(alloc, &HELD)?,
+        stored: 0,
         events: Vec::new(alloc),
         sent: 0,
     })
@@ -194,6 +202,16 @@ fn end_of_get(alloc: Global, net: &mut Echo, shape: Shape) -> Result<Option<Ende
     Ok(router.finish(alloc, net)?)
 }
 
+/// How a delete, the first operation of a new router, ends.
+fn end_of_delete(alloc: Global, net: &mut Echo, shape: Shape) -> Result<Option<Ended>, Fail>
+    requires shape { IsShape shape }
+    requires open { ⟦<Echo as Fabric>⟧.opened net.old ≡ Some shape }
+{
+    let mut router = Router::new(shape);
+    router.delete(alloc, Some(first_id()), net)?;
+    Ok(router.finish(alloc, net)?)
+}
+
 /// How a put that is too long, the first operation of a new router, ends.
 fn end_of_long_put(alloc: Global, net: &mut Echo, shape: Shape) -> Result<Option<Ended>, Fail>
     requires shape { IsShape shape }
@@ -210,6 +228,8 @@ fn end_of_long_put(alloc: Global, net: &mut Echo, shape: Shape) -> Result<Option
 enum Said<'a> {
     Put(BlobId),
     Bytes(&'a [u8]),
+    Deleted,
+    Unavailable(BlobId, &'a [(u32, Cause)]),
     TooLarge(u64),
     Other,
 }
@@ -227,6 +247,8 @@ fn words_of(ended: &Option<Ended>) -> Said<'_> {
     match outcome {
         Outcome::Put(id) => Said::Put(*id),
         Outcome::Bytes(bytes) => Said::Bytes(bytes.as_slice()),
+        Outcome::Deleted2 => Said::Deleted,
+        Outcome::Unavailable { id, failed } => Said::Unavailable(*id, failed.as_slice()),
         Outcome::TooLarge(size) => Said::TooLarge(*size),
         _ => Said::Other,
     }
@@ -249,6 +271,31 @@ fn a_get_asks_as_many_as_are_needed(rt: HostRuntime) -> Result<(), Fail> {
     let ended = end_of_get(rt.alloc(), &mut net, shape)?;
     assert_eq!(rt; words_of(&ended), Said::Bytes(b"a blob"));
     assert_eq!(rt; net.sent, 2);
+    Ok(())
+}
+
+#[test]
+fn a_delete_asks_each_replica(rt: HostRuntime) -> Result<(), Fail> {
+    let shape = three_nodes();
+    let mut net = opened(rt.alloc(), shape)?;
+    let ended = end_of_delete(rt.alloc(), &mut net, shape)?;
+    assert_eq!(rt; words_of(&ended), Said::Deleted);
+    assert_eq!(rt; net.sent, 3);
+    Ok(())
+}
+
+/// Two replicas that are full leave no quorum, and what was drawn is deleted at all three.
+#[test]
+fn a_put_that_fails_gives_its_id_up(rt: HostRuntime) -> Result<(), Fail> {
+    let shape = three_nodes();
+    let mut net = opened(rt.alloc(), shape)?;
+    net.stored = 7;
+    let ended = end_of_put(rt.alloc(), &mut net, shape)?;
+    assert_eq!(rt;
+        words_of(&ended),
+        Said::Unavailable(first_id(), &[(1, Cause::Full), (2, Cause::Full)])
+    );
+    assert_eq!(rt; net.sent, 6);
     Ok(())
 }
 

@@ -10,14 +10,14 @@ ghost use Rattle.world_model.specs.Notes.{events_in};
 ghost use Rattle.world_model.specs.Record.{Given, Record, Took};
 ghost use Rattle.world_model.specs.Told.{AllNetwork};
 ghost use Rattle.router_core.specs.Fits.{FitsStage};
-ghost use Rattle.live_piece.specs.Heard.{heard_of};
+ghost use Rattle.op_table.specs.Heard.{heard_of};
 ghost use Rattle.router_core.specs.Stands.{Owns, OwnsStage, Stands, is_idle, is_under_way};
 ghost use Rattle.router_core.specs.Ties.{Ties};
 ghost use Rattle.router_core.specs.Turning.{clock_after};
 
 use crate::router::{Router, Stage};
 use blob_id::Memory;
-use live_piece::{Heard, hear};
+use op_table::{Heard, hear};
 use std::alloc::Global;
 use world_model::Fabric;
 
@@ -43,24 +43,25 @@ impl Router {
         };
         let event = fabric.next()?;
         let mut heard = hear(alloc, &event)?;
-        self.take(&mut heard, events);
-        self.send_all(alloc, fabric)?;
-        self.decide(alloc)
+        self.take(alloc, &mut heard, events)?;
+        self.settle(alloc, fabric)?;
+        Ok(())
     }
 
     /// Takes an event by what was heard of it, which is then so many.
-    fn take(&mut self, heard: &mut Heard, events: u64)
+    fn take(&mut self, alloc: Global, heard: &mut Heard, events: u64) -> Result<(), Memory>
         requires next { events ≡ self.old.events + 1 }
         // The record goes on by what the network did and the event that it gave.
-        ensures owns { (event : Event) (steps : List Step) (record' : Record) → heard.old ≡ heard_of event → AllNetwork steps → Owns self.old record' → Owns self.new (Given event ∷ (map Took steps ++ record')) }
+        ensures owns { OnOk result ((event : Event) (steps : List Step) (record' : Record) → heard.old ≡ heard_of event → AllNetwork steps → Owns self.old record' → Owns self.new (Given event ∷ (map Took steps ++ record'))) }
         ensures events { self.new.events ≡ events }
         ensures idle { is_idle self.new.stage ≡ is_idle self.old.stage }
         ensures begun { self.new.begun ≡ self.old.begun }
         ensures shape { self.new.shape ≡ self.old.shape }
     {
         self.clock = clock_after(heard, self.clock);
-        tell_stage(&mut self.stage, heard, self.events);
+        let before = self.events;
         self.events = events;
+        tell_stage(&mut self.stage, alloc, heard, before)
     }
 
     /// Takes events until the operation that is under way is over. Each turn counts one more event, so it returns at the latest where the
@@ -86,15 +87,23 @@ impl Router {
 }
 
 /// Tells the operation that is under way what was heard, behind so many events.
-fn tell_stage(stage: &mut Stage, heard: &mut Heard, events: u64)
-    ensures owns { (shape : Shape) (event : Event) (steps : List Step) (record' : Record) → heard.old ≡ heard_of event → AllNetwork steps → events_in record' ≡ events → OwnsStage shape record' stage.old → OwnsStage shape (Given event ∷ (map Took steps ++ record')) stage.new }
+fn tell_stage(
+    stage: &mut Stage,
+    alloc: Global,
+    heard: &mut Heard,
+    events: u64,
+) -> Result<(), Memory>
+    ensures owns { OnOk result ((shape : Shape) (event : Event) (steps : List Step) (record' : Record) → heard.old ≡ heard_of event → AllNetwork steps → events_in record' ≡ events → OwnsStage shape record' stage.old → OwnsStage shape (Given event ∷ (map Took steps ++ record')) stage.new) }
     ensures fits { (shape : Shape) (begun : ℕ) → FitsStage shape begun stage.old → FitsStage shape begun stage.new }
     ensures idle { is_idle stage.new ≡ is_idle stage.old }
 {
     match stage {
-        Stage::UnderWay(live) => live.piece.on_event(heard, events),
-        Stage::Idle => {}
-        Stage::Over { .. } => {}
+        Stage::UnderWay(live) => {
+            live.hear(alloc, heard, events)?;
+            Ok(())
+        }
+        Stage::Idle => Ok(()),
+        Stage::Over { .. } => Ok(()),
     }
 }
 

@@ -79,6 +79,19 @@ returns-in_ok-get-in-Some-Get-clause-carried g c = λ lines state first k stands
     let h = c.in_ok-get-in-Some-Get.ensures.carried c.args.line.now _ asks lines (record state { lines = state.lines + 1 }) first k1 s1 counted in
     record { state = h.state; keeps = h.keeps; stands = h.stands; adds = h.adds }
 
+pub returns-in_ok-delete-in-Some-Delete-clause-carried : goal.returns-in_ok-delete-in-Some-Delete-clause-carried
+returns-in_ok-delete-in-Some-Delete-clause-carried g c = λ lines state first k stands number.
+    let self = c.args.self.now in
+    let P = self.router.shape.partitions in
+    let tie = ties_of self.router (g.F.Fabric.told c.args.fabric.now) in
+    let counted : state.lines + 1 ≡ 1 + length lines = omega (arith, number) in
+    let k1 = keeps_count self state k in
+    let s1 = count_line P lines state tie first (g.U.Random.ahead c.args.random.now) (state.lines + 1) stands in
+    let read = c.in_ok-read_line.ensures.read in
+    let asks : command_of self.tags c.args.line.now ≡ Some (command.Delete c.in-Some-Delete.tag c.in-Some-Delete.of) = cc in
+    let h = c.in_ok-delete-in-Some-Delete.ensures.carried c.args.line.now _ asks lines (record state { lines = state.lines + 1 }) first k1 s1 counted in
+    record { state = h.state; keeps = h.keeps; stands = h.stands; adds = h.adds }
+
 pub returns-in_ok-wait-in-Some-Wait-clause-carried : goal.returns-in_ok-wait-in-Some-Wait-clause-carried
 returns-in_ok-wait-in-Some-Wait-clause-carried g c = λ lines state first k stands number.
     let self = c.args.self.now in

@@ -7,7 +7,7 @@ use Rattle.front_end.specs.declared.tags.Tag.{Tag}
 use Rattle.front_end.specs.declared.script.Command.TheVariants as command
 use Rattle.front_end.specs.Script.{command_of}
 use Rattle.front_end.specs.Transcript.{entry_line}
-use Rattle.front_end.specs.Past.{named_by}
+use Rattle.front_end.specs.Past.{meant_by}
 use Rattle.front_end.specs.Session.{Keeps, Adds, Starts, entries_of, finished_by, begun_by, ending_of, get_of, ties_of}
 use Rattle.front_end.proofs.CarryLemmas.{IsGoing, begin_whole, finish_tags}
 use Rattle.front_end.proofs.LineStepLemmas.{finishes_state, begun_told, starts_on}
@@ -24,12 +24,11 @@ returns-clause-carried g c = λ line words asks lines state first k stands numbe
     let f = c.in_ok-finish.ensures.finished in
     let h = finishes_state self c.finish.new.self state tie tie1 out c.finish.new.out.items f k in
     let s1 = finished_by state f.outcome in
-    let id = c.named-id.result in
+    let id = c.meant-id.result in
     let r = get_of id in
     let n = length state.tags + 1 in
     let asks' : command_of state.tags line ≡ Some (command.Get c.args.name c.args.of) = ap (λ (x : List Tag). command_of x line) (sym k.tags) ∙ asks in
-    let found : id ≡ named_by s1.tags (entries_of s1) c.args.of = rw c.as_slice.ensures at (c.named-id.ensures.named s1 h.keeps) in
-    let named : id ≡ named_by state.tags (entries_of s1) c.args.of = subst (λ (x : List Tag). id ≡ named_by x (entries_of s1) c.args.of) (finish_tags state f.outcome) found in
+    let named : id ≡ meant_by state.tags (entries_of s1) c.args.of = subst (λ (x : List Tag). id ≡ meant_by x (entries_of s1) c.args.of) (finish_tags state f.outcome) (c.meant-id.ensures.meant s1 h.keeps) in
     let whole = begin_whole P lines line state tie tie1 first words f.outcome t r (command.Get c.args.name c.args.of) out stands h.ends k.some h.ties asks' (λ known. refl) (λ known. refl) (c.args.name, c.args.of, refl, refl, named, refl, refl) in
     let coded : Begun = c.begun_get-begun.result in
     let none : get_of id ≡ coded = sym c.begun_get-begun.ensures in

@@ -10,4 +10,4 @@ returns-clause-ties c =
     let s = c.self.inside in
     let old : RouterView = record { shape = s.shape; clock = s.clock; events = s.events; begun = s.begun; stage = s.stage } in
     let idle : is_idle old.stage ≡ true = subst (λ (v : RouterView). is_idle v.stage ≡ true) (sym c.self.view_is) c.requires.idle in
-    rw (← c.self.view_is) (λ told marks. ties_begun old (Begun.Get c.args.id None []) c.get_stage.result told marks idle c.get_stage.ensures.owns)
+    rw (← c.self.view_is) (λ told marks. ties_begun old (Begun.Get c.args.id None []) c.get_stage.result told marks idle (c.get_stage.ensures.owns s.clock))

@@ -1,9 +1,8 @@
-use Rattle.std.proofs.Common.{◌≡◌, ◌+◌, ◌%◌, ◌<◌, ◌≤◌, ◌^◌, true, List, ℕ, [], length, ap, sym, ◌∙◌, subst}
+use Rattle.std.proofs.Common.{◌≡◌, ◌+◌, ◌%◌, ◌<◌, ◌≤◌, ◌^◌, true, length, sym, subst}
 use Rattle.blob_id.specs.Id.{partition_of}
-use Rattle.router_core.specs.declared.live.Live.{Live}
 use Rattle.router_core.specs.Fits.{RouterView}
 use Rattle.router_core.specs.Stands.{is_idle}
-use Rattle.router_core.proofs.BeginLaws.{blob_of, ties_put}
+use Rattle.router_core.proofs.BeginLaws.{ties_put}
 use Rattle.router_core.proofs.router.Router.begin_put.Goals as goal
 
 pub returns-clause-ties : goal.returns-clause-ties
@@ -14,8 +13,5 @@ returns-clause-ties c =
     let number : old.begun + 1 < 2 ^ 31 = subst (λ (v : RouterView). v.begun + 1 < 2 ^ 31) (sym c.self.view_is) c.requires.number in
     let small : length c.args.body ≤ old.shape.chunk = subst (λ (v : RouterView). length c.args.body ≤ v.shape.chunk) (sym c.self.view_is) c.requires.small in
     let chosen : partition_of c.args.id ≡ old.begun % old.shape.partitions = subst (λ (v : RouterView). partition_of c.args.id ≡ v.begun % v.shape.partitions) (sym c.self.view_is) c.requires.chosen in
-    let within : partition_of c.args.id < old.shape.partitions = subst (λ (l : Live). partition_of l.id < old.shape.partitions) c.put-live.ensures.value c.put-live.ensures.fits.within in
-    let is : blob_of s.clock c.new.result c.new-2.result c.args.body ≡ blob_of s.clock [] [] c.args.body =
-    ap (λ (x : List ℕ). blob_of s.clock x c.new-2.result c.args.body) c.new.ensures ∙ ap (λ (x : List ℕ). blob_of s.clock [] x c.args.body) c.new-2.ensures in
-    rw (← c.self.view_is)
-    (λ told marks. ties_put old c.args.id (blob_of s.clock c.new.result c.new-2.result c.args.body) c.args.body c.put-live.result told marks idle number small c.requires.simple chosen within is c.put-live.ensures.value c.put-live.ensures.owns)
+    let e = c.put-live.ensures in
+    rw (← c.self.view_is) (λ told marks. ties_put old c.args.id c.args.body c.put-live.result told marks idle number small e.does.served chosen e.value.0 e.value.1 e.does)

@@ -1,0 +1,3 @@
+pub mod Deletes
+pub mod Standing
+pub mod Meaning

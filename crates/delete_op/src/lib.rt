@@ -1,0 +1,9 @@
+//! Deletes: what a delete asks of replicas, and what it answers.
+#![tactic(auto)]
+
+mod delete;
+
+pub use delete::DelOp;
+
+#[cfg(test)]
+mod tests;

@@ -1,0 +1,9 @@
+//! Gets: what a get asks replicas for, and what it answers.
+#![tactic(auto)]
+
+mod get;
+
+pub use get::GetOp;
+
+#[cfg(test)]
+mod tests;

@@ -1,0 +1,9 @@
+pub mod TellingLaws
+pub mod Lists
+pub mod CallLaws
+pub mod SameLaws
+pub mod HeardLaws
+pub mod EventLaws
+pub mod RecordLaws
+pub mod BlobLaws
+pub mod TiedLaws

@@ -1,0 +1,4 @@
+pub mod Heard
+pub mod Told
+pub mod Piece
+pub mod Tied

@@ -1,0 +1,4 @@
+pub mod PutLaws
+pub mod WantLaws
+pub mod StepLaws
+pub mod Examples
