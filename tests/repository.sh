@@ -1,6 +1,7 @@
 #!/usr/bin/env bash
 # The repository's own checks, behind the gate. Each example gives the transcript and the status that stand beside it, under the words that stand
-# beside it, or else over one node. A long script over three replicas ends well under each of fifty schedules, twice with the same transcript.
+# beside it, or else over one node. A script of 100 lines of puts, gets and deletes over three replicas ends well under each of 100 schedules, twice with
+# the same transcript: what is got is what was put, and nothing is got behind the ok of its delete.
 # The program is run here without its proofs, which the gate has just made.
 set -u
 cd "$(dirname "$0")/.." || exit 1
@@ -40,20 +41,26 @@ done
 echo "examples: $(ls examples/*.script | wc -l), and $failed not as they stand"
 
 for n in $(seq 1 20); do
-  printf 'put a%d hex %04x\nwait\nget b%d $a%d\n' "$n" "$n" "$n" "$n"
-  printf 'b%d ok 2 %04x\n' "$n" "$n" >> "$work/right"
+  printf 'put a%d hex %04x\nwait\nget b%d $a%d\ndel d%d $a%d\nget c%d $a%d\n' "$n" "$n" "$n" "$n" "$n" "$n" "$n" "$n"
+  printf 'b%d ok 2 %04x\nc%d ok 2 %04x\n' "$n" "$n" "$n" "$n" >> "$work/right"
 done > "$work/script"
-for seed in $(seq 1 50); do
+for seed in $(seq 1 100); do
   cp "$work/script" "$work/seeds/seed_$seed"
   printf 'run\n--seed\n%d\n' "$seed" > "$work/seeds/seed_$seed.args"
 done
 run_all "$work/seeds" > "$work/once" 2> "$work/log"
 run_all "$work/seeds" > "$work/again" 2> /dev/null
 ended=$(grep -c '^case=seed_.* run=ended status=0 ' "$work/log")
-wrong=$(grep '^b[0-9]* ok' "$work/once" | grep -c -v -x -F -f "$work/right")
-echo "schedules: 50, of which $ended ended well, with $wrong wrong gets"
-[ "$ended" = 50 ] || failed=$((failed + 1))
+wrong=$(grep '^[bc][0-9]* ok' "$work/once" | grep -c -v -x -F -f "$work/right")
+# A transcript begins with the first put, and get cN begins behind the end of delete dN.
+late=$(awk '$1 == "a1" && $2 == "begun" { split("", deleted) }
+  /^d[0-9]+ ok$/ { deleted[substr($1, 2)] = 1 }
+  /^c[0-9]+ ok / && (substr($1, 2) in deleted) { late++ }
+  END { print late + 0 }' "$work/once")
+echo "schedules: 100, of which $ended ended well, with $wrong wrong gets and $late gets behind a delete"
+[ "$ended" = 100 ] || failed=$((failed + 1))
 [ "$wrong" = 0 ] || failed=$((failed + 1))
+[ "$late" = 0 ] || failed=$((failed + 1))
 if ! cmp "$work/once" "$work/again"; then
   failed=$((failed + 1))
   echo "schedules: the same seed gave two transcripts"
