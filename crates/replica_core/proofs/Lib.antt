@@ -1,0 +1,9 @@
+pub mod Ids
+pub mod Maps
+pub mod Spots
+pub mod Standing
+pub mod Adding
+pub mod Replies
+pub mod Noting
+pub mod Restoring
+pub mod Room

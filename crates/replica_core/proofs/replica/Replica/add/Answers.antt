@@ -1,0 +1,111 @@
+use Rattle.std.proofs.Common.{◌≡◌, ◌⊎◌, inl, inr, ⊎_elim, ℕ, List, false, sym, ◌∙◌, ap, subst}
+use Rattle.disk_core.specs.Content.{ChangesBy}
+use Rattle.cell_model.specs.Cells.{cell_in}
+use Rattle.msg_format.specs.Records.{record_size, id_of}
+use Rattle.part_log.specs.Records.{records_of}
+use Rattle.part_log.specs.Log.{LogState, target_of}
+use Rattle.replica_core.specs.declared.index.Spot.{Spot}
+use Rattle.replica_core.specs.Maps.{MayCome, JoinsCell, cell_of}
+use Rattle.replica_core.specs.Index.{cells_of, IsReady}
+use Rattle.replica_core.specs.State.{ReplicaState}
+use Rattle.replica_core.proofs.Adding.{joins, added_index, added_cells, kept_cells}
+use Rattle.replica_core.proofs.replica.Replica.add.Goals as goal
+
+pub invariant_of-self : goal.invariant_of-self
+invariant_of-self g c =
+    let s = c.self.inside in
+    let e = c.args.entry.now in
+    let old = g.D.Disk.content s.log.disk in
+    let new = g.D.Disk.content c.put_noted.new.log.disk in
+    let up : s.down ≡ false = ap (λ (v : ReplicaState g.row.D.Denot). v.down) c.self.view_is ∙ c.requires.up in
+    let ready = (c.self.invariant up).1 in
+    let may = subst (λ (v : ReplicaState g.row.D.Denot). g.D.Disk.tells → MayCome (cell_in v.cells (id_of e)) e) (sym c.self.view_is) c.requires.may in
+    λ still. (
+      c.in-Ok.ensures.up,
+      record {
+        good = c.in-Ok.ensures.good;
+        indexed = λ t.
+            let indexed = ready.indexed t in
+            added_index s.log.table old s.index.entries e ready.good indexed (may t) c.put_noted.new.log.table new c.put_noted.new.index.entries c.in-Ok.field-0 (c.in-Ok.ensures.put t indexed.placed indexed.log) c.in-Ok.ensures.noted;
+      },
+    )
+
+pub returns-in-Ok-clause-during : goal.returns-in-Ok-clause-during
+returns-in-Ok-clause-during g c =
+    let s = c.self.inside in
+    let e = c.args.entry.now in
+    let old = g.D.Disk.content s.log.disk in
+    let new = g.D.Disk.content c.put_noted.new.log.disk in
+    let up : s.down ≡ false = ap (λ (v : ReplicaState g.row.D.Denot). v.down) c.self.view_is ∙ c.requires.up in
+    let ready = (c.self.invariant up).1 in
+    let may = subst (λ (v : ReplicaState g.row.D.Denot). g.D.Disk.tells → MayCome (cell_in v.cells (id_of e)) e) (sym c.self.view_is) c.requires.may in
+    rw (← c.self.view_is) (λ t.
+    let indexed = ready.indexed t in
+    joins s.log.table old s.index.entries e ready.good indexed (may t) new (target_of s.log.table (record_size e)) (c.put_noted.ensures.during t indexed.placed indexed.log))
+
+pub returns-in-Ok-clause-added : goal.returns-in-Ok-clause-added
+returns-in-Ok-clause-added g c =
+    let s = c.self.inside in
+    let e = c.args.entry.now in
+    let old = g.D.Disk.content s.log.disk in
+    let new = g.D.Disk.content c.put_noted.new.log.disk in
+    let up : s.down ≡ false = ap (λ (v : ReplicaState g.row.D.Denot). v.down) c.self.view_is ∙ c.requires.up in
+    let ready = (c.self.invariant up).1 in
+    let may = subst (λ (v : ReplicaState g.row.D.Denot). g.D.Disk.tells → MayCome (cell_in v.cells (id_of e)) e) (sym c.self.view_is) c.requires.may in
+    rw (← c.self.view_is) (λ t other.
+    let indexed = ready.indexed t in
+    added_cells s.log.table old s.index.entries e ready.good indexed (may t) c.put_noted.new.log.table new c.put_noted.new.index.entries c.in-Ok.field-0 (c.in-Ok.ensures.put t indexed.placed indexed.log) c.in-Ok.ensures.noted c.in-Ok.ensures.good other)
+
+pub returns-in-Err-Failed-clause-during : goal.returns-in-Err-Failed-clause-during
+returns-in-Err-Failed-clause-during g c =
+    let s = c.self.inside in
+    let e = c.args.entry.now in
+    let old = g.D.Disk.content s.log.disk in
+    let new = g.D.Disk.content c.put_noted.new.log.disk in
+    let up : s.down ≡ false = ap (λ (v : ReplicaState g.row.D.Denot). v.down) c.self.view_is ∙ c.requires.up in
+    let ready = (c.self.invariant up).1 in
+    let may = subst (λ (v : ReplicaState g.row.D.Denot). g.D.Disk.tells → MayCome (cell_in v.cells (id_of e)) e) (sym c.self.view_is) c.requires.may in
+    rw (← c.self.view_is) (λ t.
+    let indexed = ready.indexed t in
+    joins s.log.table old s.index.entries e ready.good indexed (may t) new (target_of s.log.table (record_size e)) (c.put_noted.ensures.during t indexed.placed indexed.log))
+
+pub returns-in-Err-Failed-clause-kept : goal.returns-in-Err-Failed-clause-kept
+returns-in-Err-Failed-clause-kept g c =
+    let s = c.self.inside in
+    let e = c.args.entry.now in
+    let old = g.D.Disk.content s.log.disk in
+    let new = g.D.Disk.content c.put_noted.new.log.disk in
+    let up : s.down ≡ false = ap (λ (v : ReplicaState g.row.D.Denot). v.down) c.self.view_is ∙ c.requires.up in
+    let ready = (c.self.invariant up).1 in
+    let may = subst (λ (v : ReplicaState g.row.D.Denot). g.D.Disk.tells → MayCome (cell_in v.cells (id_of e)) e) (sym c.self.view_is) c.requires.may in
+    rw (← c.self.view_is) (λ t other.
+    let indexed = ready.indexed t in
+    subst (λ (l : List (List ℕ × Spot)). cell_in (cells_of new.seen l) other ≡ cell_in (cells_of old.seen s.index.entries) other) (sym c.in-Err-Failed.ensures.rests)
+    (kept_cells s.log.table old s.index.entries e ready.good indexed new.seen (c.put_noted.ensures.visible t indexed.placed indexed.log) other))
+
+pub returns-in-Err-clause-during : goal.returns-in-Err-clause-during
+returns-in-Err-clause-during g c =
+    let s = c.self.inside in
+    let e = c.args.entry.now in
+    let old = g.D.Disk.content s.log.disk in
+    let new = g.D.Disk.content c.put_noted.new.log.disk in
+    let up : s.down ≡ false = ap (λ (v : ReplicaState g.row.D.Denot). v.down) c.self.view_is ∙ c.requires.up in
+    let ready = (c.self.invariant up).1 in
+    let may = subst (λ (v : ReplicaState g.row.D.Denot). g.D.Disk.tells → MayCome (cell_in v.cells (id_of e)) e) (sym c.self.view_is) c.requires.may in
+    rw (← c.self.view_is) (λ t.
+    let indexed = ready.indexed t in
+    joins s.log.table old s.index.entries e ready.good indexed (may t) new (target_of s.log.table (record_size e)) (c.put_noted.ensures.during t indexed.placed indexed.log))
+
+pub returns-in-Err-clause-kept : goal.returns-in-Err-clause-kept
+returns-in-Err-clause-kept g c =
+    let s = c.self.inside in
+    let e = c.args.entry.now in
+    let old = g.D.Disk.content s.log.disk in
+    let new = g.D.Disk.content c.put_noted.new.log.disk in
+    let up : s.down ≡ false = ap (λ (v : ReplicaState g.row.D.Denot). v.down) c.self.view_is ∙ c.requires.up in
+    let ready = (c.self.invariant up).1 in
+    let may = subst (λ (v : ReplicaState g.row.D.Denot). g.D.Disk.tells → MayCome (cell_in v.cells (id_of e)) e) (sym c.self.view_is) c.requires.may in
+    rw (← c.self.view_is) (λ t other.
+    let indexed = ready.indexed t in
+    subst (λ (l : List (List ℕ × Spot)). cell_in (cells_of new.seen l) other ≡ cell_in (cells_of old.seen s.index.entries) other) (sym c.in-Err.ensures.rests)
+    (kept_cells s.log.table old s.index.entries e ready.good indexed new.seen (c.put_noted.ensures.visible t indexed.placed indexed.log) other))

@@ -1,0 +1,36 @@
+use Rattle.std.proofs.Common.{◌≡◌, ℕ, List, ◌∙◌, ap}
+use Rattle.part_log.specs.declared.segment.Found.{Found}
+use Rattle.part_log.specs.Records.{records_of}
+use Rattle.replica_core.specs.Index.{newest, IsIndexed}
+use Rattle.replica_core.proofs.Standing.{its_cells}
+use Rattle.replica_core.proofs.replica.Replica.open.Goals as goal
+
+pub invariant_of-result : goal.invariant_of-result
+invariant_of-result g c = λ still. (
+  c.in-Ok.ensures.table.2,
+  record {
+    good = c.in-Ok.ensures.table.0;
+    indexed = λ t.
+        let found = c.in-Ok.ensures.records t in
+        record {
+          placed = found.0;
+          log = found.1;
+          index = λ id. c.in-Ok-index_of.ensures id ∙ ap (λ (l : List Found). newest l id) (c.deref.ensures.value ∙ found.3);
+          tidy = c.requires.tidy t (records_of found.0) _ found.2;
+        };
+  },
+)
+
+pub returns-in-Ok-index_of-clause-cells : goal.returns-in-Ok-index_of-clause-cells
+returns-in-Ok-index_of-clause-cells g c = λ t.
+    let found = c.in-Ok.ensures.records t in
+    let indexed : IsIndexed c.in-Ok.opened.0.table (g.D.Disk.content c.in-Ok.opened.0.disk) c.in-Ok-index_of.index.entries = record {
+      placed = found.0;
+      log = found.1;
+      index = λ id. c.in-Ok-index_of.ensures id ∙ ap (λ (l : List Found). newest l id) (c.deref.ensures.value ∙ found.3);
+      tidy = c.requires.tidy t (records_of found.0) _ found.2;
+    } in
+    (records_of found.0, found.2, its_cells c.in-Ok.opened.0.table (g.D.Disk.content c.in-Ok.opened.0.disk) c.in-Ok-index_of.index.entries c.in-Ok.ensures.table.0 indexed)
+
+pub returns-clause-kept_err : goal.returns-clause-kept_err
+returns-clause-kept_err g c = λ t some. ap (λ (d : g.row.D.Denot). (g.D.Disk.content d).seen) c.close.ensures ∙ c.in-Ok.ensures.kept t some

@@ -1,0 +1,58 @@
+use Rattle.std.proofs.Common.{◌≡◌, ◌≢◌, inl, inr, ℕ, List, true, false, Err, refl, sym, ◌∙◌, ap, subst}
+use Rattle.std.proofs.lemmas.Bool.{iff_false}
+use Rattle.blob_id.specs.declared.blob.Blob.{Blob}
+use Rattle.cell_model.specs.declared.ask.Ask.TheVariants.{Put, Get, Peek, Delete, Merge}
+use Rattle.cell_model.specs.declared.ask.Reply.{Reply}
+use Rattle.cell_model.specs.declared.ask.Reply.TheVariants as replied
+use Rattle.cell_model.specs.declared.cell.Cell.{Cell}
+use Rattle.cell_model.specs.declared.cell.Cell.TheVariants.{Absent, Held, Gone}
+use Rattle.cell_model.specs.Cells.{join, cell_in}
+use Rattle.cell_model.specs.Asks.{Answers}
+use Rattle.replica_core.specs.Maps.{StandsForCells}
+use Rattle.replica_core.specs.State.{ReplicaState, IsAsked}
+use Rattle.replica_core.proofs.Maps.{join_absent}
+use Rattle.replica_core.proofs.Noting.{noted_leaves}
+use Rattle.replica_core.proofs.Standing.{stands_cells}
+use Rattle.replica_core.proofs.Replies.{IsRead, IsPut, nothing_read, asked_carried, asked_failed, asked_put, deleted_done, merged_done, gone_changes}
+use Rattle.replica_core.proofs.replica.Replica.put.Goals as goal
+
+pub returns-then-spot : goal.returns-then-spot
+returns-then-spot g c =
+    let old = c.args.self.now in
+    let up : old.down ≡ false = sym (ap (λ (v : ReplicaState g.row.D.Denot). v.down) c.self.view_is) ∙ c.if-self.false in
+    let ask = (Put c.args.id c.args.blob) in
+    let read = nothing_read g.D.Disk.tells g.D.Disk.content g.D.Disk.size g.D.Disk.faults old up (λ t. c.spot.ensures.stands t up) in
+    record { asked = asked_carried g.D.Disk.tells g.D.Disk.content g.D.Disk.size g.D.Disk.faults old old ask replied.Gone read refl tt tt (λ t. subst (λ (x : Cell). Answers x ask replied.Gone) (sym ((c.in-Some.ensures.noted t up).0 c.if-spot.true)) refl) (λ t. subst (λ (x : Cell). join x (Held c.args.blob) ≡ x) (sym ((c.in-Some.ensures.noted t up).0 c.if-spot.true)) refl) refl }
+
+pub compare-requires-clause-stands : goal.compare-requires-clause-stands
+compare-requires-clause-stands g c =
+    let old = c.args.self.now in
+    let up : old.down ≡ false = sym (ap (λ (v : ReplicaState g.row.D.Denot). v.down) c.self.view_is) ∙ c.if-self.false in
+    λ t. c.spot.ensures.stands t up
+
+pub returns : goal.returns
+returns g c =
+    let old = c.args.self.now in
+    let up : old.down ≡ false = sym (ap (λ (v : ReplicaState g.row.D.Denot). v.down) c.self.view_is) ∙ c.if-self.false in
+    let ask = (Put c.args.id c.args.blob) in
+    let e = c.add_put.ensures in
+    let new = c.add_put.new.self in
+    let put : IsPut g.D.Disk.tells g.D.Disk.content g.D.Disk.size g.D.Disk.faults old ask c.add_put.result new = record {
+      write = tt;
+      was_up = up;
+      answers = (λ t. subst (λ (x : Cell). Answers x ask replied.Stored) (sym (c.in-None.ensures.noted t up)) refl);
+      changes = (λ t. subst (λ (x : Cell). join x (Held c.args.blob) ≢ x) (sym (c.in-None.ensures.noted t up)) (λ is. absurd (cc is)));
+      during = e.during;
+      added = e.added;
+      kept = e.kept;
+      full = e.full;
+      full_only = e.full_only;
+      not_down = e.not_down;
+      failed = e.failed;
+      unchanged = e.unchanged;
+      up = e.up;
+      settings = e.settings;
+      disk_size = e.size;
+      later = e.later;
+    } in
+    record { asked = subst (λ (r : Reply). IsAsked g.D.Disk.tells g.D.Disk.content g.D.Disk.size g.D.Disk.faults old ask r new) (sym c.reply_for.ensures) (asked_put g.D.Disk.tells g.D.Disk.content g.D.Disk.size g.D.Disk.faults old ask c.add_put.result new put) }

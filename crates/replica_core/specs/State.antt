@@ -1,0 +1,81 @@
+-- What callers see of a replica, and what an ask does.
+use Rattle.std.specs.Prelude.{◌≡◌, ◌≢◌, ◌⊎◌, ◌↔◌, ◌≤◌, ℕ, List, Bool, true, false, Result, Ok, Err}
+use Rattle.outside.specs.Causes.{Rose}
+use Rattle.disk_core.specs.Content.{Content, ChangesBy}
+use Rattle.cell_model.specs.declared.cell.Cell.{Cell}
+use Rattle.cell_model.specs.declared.cell.Cell.TheVariants.{Absent, Held, Gone}
+use Rattle.cell_model.specs.declared.ask.Ask.{Ask}
+use Rattle.cell_model.specs.declared.ask.Ask.TheVariants.{Put, Get, Peek, Delete, Merge}
+use Rattle.cell_model.specs.declared.ask.Reply.{Reply}
+use Rattle.cell_model.specs.declared.ask.Reply.TheVariants as replied
+use Rattle.cell_model.specs.Cells.{join, cell_in}
+use Rattle.cell_model.specs.Asks.{Told, IsStep, CanAnswer, AnswersInRange, id_of, brought}
+use Rattle.msg_format.specs.declared.record.Record.TheVariants as written
+use Rattle.msg_format.specs.Records.{record_size}
+use Rattle.part_log.specs.declared.fault.LogFault.{LogFault}
+use Rattle.part_log.specs.declared.fault.LogFault.TheVariants as faulty
+use Rattle.part_log.specs.Log.{LogState, is_full}
+use Rattle.replica_core.specs.Maps.{JoinsCell}
+
+-- The log, the cells that its records stand for, and whether a fault was answered since the opening.
+pub record ReplicaState (D : Type 0) : Type 0 where
+  pub log : LogState D
+  pub cells : List (List ℕ × Cell)
+  pub down : Bool
+
+abbrev pub told_of : {D : Type 0} → ReplicaState D → Told
+told_of replica = record { cells = replica.cells }
+
+-- an ask changes this cell
+abbrev pub Changes : Cell → Ask → Type 0
+Changes cell ask = join cell (brought ask) ≢ cell
+
+-- how many bytes the record has that an ask puts where it changes its cell
+abbrev pub needed : Ask → ℕ
+needed (Put id blob) = record_size (written.Put 0 id blob)
+needed (Get id) = 0
+needed (Peek id) = 0
+needed (Delete id at) = record_size (written.Delete 0 id at)
+needed (Merge id Absent) = 0
+needed (Merge id (Held blob)) = record_size (written.Put 0 id blob)
+needed (Merge id Gone) = record_size (written.Delete 0 id 0)
+
+-- what is answered where a record wasn't put or read
+abbrev pub refusal_of : LogFault → Reply
+refusal_of faulty.Full = replied.Full
+refusal_of faulty.Failed = replied.Fault
+refusal_of faulty.Down = replied.Down
+refusal_of faulty.Memory = replied.Memory
+
+-- this reply, or the refusal
+abbrev pub reply_for : {T : Type 0} → Result T LogFault → Reply → Reply
+reply_for (Ok value) reply = reply
+reply_for (Err fault) reply = refusal_of fault
+
+-- a fault takes a replica down, and no other reply changes whether it is down
+abbrev pub GoesDown : Reply → Bool → Bool → Type 0
+GoesDown replied.Fault old new = (old ≡ false) × (new ≡ true)
+GoesDown _ old new = new ≡ old
+
+-- One ask: what it is answered, and what it does to the cells and to the disk.
+pub record IsAsked {D : Type 0} (tells : Type 0) (content : D → Content) (size faults : D → ℕ) (old : ReplicaState D) (ask : Ask) (reply : Reply) (new : ReplicaState D) : Type 0 where
+  -- the table of asks
+  pub kind : CanAnswer ask reply
+  pub range : AnswersInRange reply
+  pub step : tells → IsStep (told_of old) ask reply (told_of new)
+  -- at each moment a crash leaves the cells from before, or those with what the ask brings
+  pub during : tells → old.down ≡ false → ChangesBy (JoinsCell old.log.table.settings (cell_in old.cells) (id_of ask) (brought ask)) (content old.log.disk) (content new.log.disk)
+  -- after a fault it is down, and then nothing is done
+  pub down : GoesDown reply old.down new.down
+  pub refused : (reply ≡ replied.Down) ↔ (old.down ≡ true)
+  pub unchanged : reply ≡ replied.Down → new ≡ old
+  pub fault : reply ≡ replied.Fault → tells → Rose (faults old.log.disk) (faults new.log.disk)
+  -- it is full exactly where the ask changes its cell and the log has no place for the record
+  pub full : reply ≡ replied.Full → is_full old.log.table (needed ask) ≡ true
+  pub full_change : reply ≡ replied.Full → tells → Changes (cell_in old.cells (id_of ask)) ask
+  pub full_only : tells → old.down ≡ false → Changes (cell_in old.cells (id_of ask)) ask → is_full old.log.table (needed ask) ≡ true → (reply ≡ replied.Full) ⊎ (reply ≡ replied.Memory)
+  -- want of memory leaves the log
+  pub memory : reply ≡ replied.Memory → new.log.table ≡ old.log.table
+  pub settings : new.log.table.settings ≡ old.log.table.settings
+  pub disk_size : size new.log.disk ≡ size old.log.disk
+  pub later : faults old.log.disk ≤ faults new.log.disk

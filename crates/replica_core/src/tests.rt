@@ -1,0 +1,404 @@
+//! A replica over disks in memory, with segments of 4,096 bytes.
+
+ghost use Rattle.std.specs.Prelude.{IfOk};
+ghost use Rattle.blob_id.specs.Blob.{IsBlob};
+ghost use Rattle.cell_model.specs.Cells.{HoldsBlob};
+ghost use Rattle.cell_model.specs.Asks.{AsksInRange};
+
+use crate::{LogSettings, Replica};
+use blob_id::{Blob, BlobId, Bytes, Kind, Memory};
+use cell_model::{Ask, Cell, ReplicaPort, Reply};
+use disk_core::{Disk, FuseDisk, MemDisk, Pick};
+use outside::Failed;
+use std::alloc::Global;
+use std::process::Abort;
+use std::test::Fail;
+
+/// What a reply says, with the length of its blob's body.
+#[derive(Clone, Copy, Debug, PartialEq)]
+enum Answer {
+    Stored,
+    There,
+    Clash,
+    Gone,
+    Blob(usize),
+    Absent,
+    Done,
+    Full,
+    Fault,
+    Down,
+    Other,
+}
+
+fn answer_of(reply: &Reply) -> Answer {
+    match reply {
+        Reply::Stored => Answer::Stored,
+        Reply::There => Answer::There,
+        Reply::Clash => Answer::Clash,
+        Reply::Gone => Answer::Gone,
+        Reply::Blob(blob) => Answer::Blob(blob.body.len()),
+        Reply::Absent => Answer::Absent,
+        Reply::Done => Answer::Done,
+        Reply::Full => Answer::Full,
+        Reply::Fault => Answer::Fault,
+        Reply::Down => Answer::Down,
+        Reply::Memory | Reply::NoPartition => Answer::Other,
+    }
+}
+
+/// A disk whose type tells nothing, so that nothing has to be known of its bytes before it is opened.
+#[derive(Drop)]
+struct Quiet<D: Disk> {
+    disk: D,
+}
+
+type TestDisk = Quiet<FuseDisk<MemDisk>>;
+
+impl<D: Disk> Disk for Quiet<D> {
+    ghost use Rattle.std.specs.Prelude.{◌≡◌, ◌≤◌, ◌^◌, ◌<◌, length};
+    ghost use Rattle.disk_core.specs.Silent.{silent};
+
+    ghost tells = { ⊥ };
+
+    ghost content = { λ _. silent };
+
+    ghost size = { λ q. D.size q.disk };
+
+    ghost faults = { λ q. D.faults q.disk };
+
+    ghost bounded = { λ q. D.bounded q.disk };
+
+    ghost whole = { λ q t. absurd t };
+
+    fn size(&self) -> u64 {
+        self.disk.size()
+    }
+
+    fn read(&mut self, at: u64, buf: &mut [u8]) -> Result<(), Failed> {
+        self.disk.read(at, buf)
+    }
+
+    fn write(&mut self, at: u64, bytes: &[u8]) -> Result<(), Failed> {
+        self.disk.write(at, bytes)
+    }
+
+    fn sync(&mut self) -> Result<(), Failed> {
+        self.disk.sync()
+    }
+
+    fn stopped(&mut self) {
+        self.disk.stopped();
+    }
+}
+
+/// A new disk for so many segments.
+fn new_disk(alloc: Global, segments: u16, pick: Pick) -> Result<TestDisk, Fail> {
+    let bytes = vec![in alloc; 0u8; 4096 + 4096 * usize::from(segments)]?;
+    let disk = MemDisk::new(alloc, bytes, pick, Vec::new(alloc));
+    Ok(Quiet {
+        disk: FuseDisk::without_fuse(disk),
+    })
+}
+
+/// The disk with a fuse that passes so many calls.
+fn fused(disk: TestDisk, passes: u64) -> TestDisk {
+    let Quiet { disk } = disk;
+    Quiet {
+        disk: FuseDisk::new(disk.into_inner(), passes),
+    }
+}
+
+/// Opens the replica of a disk with so many segments.
+fn open(rt: &impl Abort, alloc: Global, disk: TestDisk, segments: u16) -> Replica<TestDisk> {
+    assert!(rt; 2 <= segments && segments <= 64);
+    assert!(rt; disk.size() == 4096 + u64::from(segments) * 4096);
+    let settings = LogSettings {
+        segment: 4096,
+        segments,
+        index: 1000,
+    };
+    let Ok(replica) = Replica::open(alloc, disk, settings) else {
+        panic!(rt; "not opened")
+    };
+    replica
+}
+
+/// A blob with so many bytes.
+fn blob_of(alloc: Global, len: u16) -> Result<Blob, Memory>
+    ensures { IfOk result (λ blob. IsBlob blob) }
+{
+    let body = vec![in alloc; 7u8; usize::from(len)]?;
+    Ok(Blob {
+        created: 5,
+        ctype: Bytes::new(alloc),
+        meta: Bytes::new(alloc),
+        body: Bytes::from_vec(body),
+    })
+}
+
+fn id_of(number: u64) -> BlobId {
+    BlobId::draw(Kind::Simple, 0, 0, number)
+}
+
+/// An ask by the number of its id, and the length of the body that it brings.
+#[derive(Clone, Copy)]
+enum Step {
+    Put(u64, u16),
+    Get(u64),
+    Peek(u64),
+    Delete(u64),
+    MergeBlob(u64, u16),
+    MergeGone(u64),
+    MergeAbsent(u64),
+}
+
+fn put<D: Disk>(
+    alloc: Global,
+    replica: &mut Replica<D>,
+    number: u64,
+    len: u16,
+) -> Result<Answer, Memory> {
+    let blob = blob_of(alloc, len)?;
+    Ok(answer_of(&replica.put(id_of(number), blob)))
+}
+
+fn merge<D: Disk>(replica: &mut Replica<D>, number: u64, cell: Cell) -> Answer
+    requires { HoldsBlob cell }
+{
+    answer_of(&replica.merge(id_of(number), cell))
+}
+
+fn merge_blob<D: Disk>(
+    alloc: Global,
+    replica: &mut Replica<D>,
+    number: u64,
+    len: u16,
+) -> Result<Answer, Memory> {
+    let blob = blob_of(alloc, len)?;
+    Ok(merge(replica, number, Cell::Held(blob)))
+}
+
+/// What a replica answers to a step.
+fn answer_to<D: Disk>(
+    alloc: Global,
+    replica: &mut Replica<D>,
+    step: Step,
+) -> Result<Answer, Memory> {
+    match step {
+        Step::Put(number, len) => put(alloc, replica, number, len),
+        Step::Get(number) => Ok(answer_of(&replica.get(&id_of(number)))),
+        Step::Peek(number) => Ok(answer_of(&replica.peek(&id_of(number)))),
+        Step::Delete(number) => Ok(answer_of(&replica.delete(id_of(number), 9))),
+        Step::MergeBlob(number, len) => merge_blob(alloc, replica, number, len),
+        Step::MergeGone(number) => Ok(merge(replica, number, Cell::Gone)),
+        Step::MergeAbsent(number) => Ok(merge(replica, number, Cell::Absent)),
+    }
+}
+
+/// Each step in turn is answered so.
+fn assert_steps<D: Disk>(
+    rt: &impl Abort,
+    alloc: Global,
+    replica: &mut Replica<D>,
+    steps: &[(Step, Answer)],
+) -> Result<(), Fail> {
+    for (at, (step, wanted)) in steps.iter().enumerate() {
+        assert_eq!(rt; answer_to(alloc, replica, *step)?, *wanted, "step {at}");
+    }
+    Ok(())
+}
+
+/// Opens the replica of a disk with so many segments, which answers these steps and then ends at this lsn: the disk.
+fn run(
+    rt: &impl Abort,
+    alloc: Global,
+    disk: TestDisk,
+    segments: u16,
+    steps: &[(Step, Answer)],
+    end: u64,
+) -> Result<TestDisk, Fail> {
+    let mut replica = open(rt, alloc, disk, segments);
+    assert_steps(rt, alloc, &mut replica, steps)?;
+    assert_eq!(rt; replica.end_lsn(), end);
+    Ok(replica.close())
+}
+
+/// What a new replica answers, and what it answers when it was closed and opened again. Both end at this lsn.
+fn assert_kept(
+    rt: &impl Abort,
+    alloc: Global,
+    steps: &[(Step, Answer)],
+    reopened: &[(Step, Answer)],
+    end: u64,
+) -> Result<(), Fail> {
+    let disk = run(rt, alloc, new_disk(alloc, 3, Pick::Drop)?, 3, steps, end)?;
+    run(rt, alloc, disk, 3, reopened, end)?;
+    Ok(())
+}
+
+const DELETED: [(Step, Answer); 11] = [
+    (Step::Get(1), Answer::Absent),
+    (Step::Put(1, 2), Answer::Stored),
+    (Step::Put(1, 2), Answer::There),
+    (Step::Put(1, 3), Answer::Clash),
+    (Step::Get(1), Answer::Blob(2)),
+    (Step::Peek(1), Answer::There),
+    (Step::Peek(2), Answer::Absent),
+    (Step::Delete(1), Answer::Done),
+    (Step::Put(1, 2), Answer::Gone),
+    (Step::Get(1), Answer::Gone),
+    (Step::Peek(1), Answer::Gone),
+];
+
+const STAYS_GONE: [(Step, Answer); 2] = [
+    (Step::Get(1), Answer::Gone),
+    (Step::Put(1, 2), Answer::Gone),
+];
+
+#[test]
+fn what_is_deleted_stays_gone(rt: HostRuntime) -> Result<(), Fail> {
+    assert_kept(&rt, rt.alloc(), &DELETED, &STAYS_GONE, 2)
+}
+
+/// One put and two deletes are written: what leaves its cell writes no record.
+const MERGED: [(Step, Answer); 9] = [
+    (Step::MergeAbsent(1), Answer::Done),
+    (Step::Get(1), Answer::Absent),
+    (Step::MergeBlob(1, 2), Answer::Done),
+    (Step::MergeBlob(1, 3), Answer::Done),
+    (Step::Get(1), Answer::Blob(2)),
+    (Step::MergeGone(1), Answer::Done),
+    (Step::MergeGone(2), Answer::Done),
+    (Step::Delete(1), Answer::Done),
+    (Step::MergeBlob(1, 2), Answer::Done),
+];
+
+const JOINED: [(Step, Answer); 3] = [
+    (Step::Get(1), Answer::Gone),
+    (Step::Get(2), Answer::Gone),
+    (Step::Get(3), Answer::Absent),
+];
+
+#[test]
+fn merges_join(rt: HostRuntime) -> Result<(), Fail> {
+    assert_kept(&rt, rt.alloc(), &MERGED, &JOINED, 3)
+}
+
+/// A put has 45 bytes beside its body, and one byte of a segment stays free. What leaves its cell has always room.
+const FILLED: [(Step, Answer); 11] = [
+    (Step::Put(1, 4051), Answer::Full),
+    (Step::Put(1, 4050), Answer::Stored),
+    (Step::Put(2, 4000), Answer::Stored),
+    (Step::Put(3, 6), Answer::Full),
+    (Step::MergeBlob(3, 6), Answer::Full),
+    (Step::Get(3), Answer::Absent),
+    (Step::Put(3, 5), Answer::Stored),
+    (Step::Delete(1), Answer::Full),
+    (Step::Put(1, 4050), Answer::There),
+    (Step::MergeBlob(1, 1), Answer::Done),
+    (Step::Get(1), Answer::Blob(4050)),
+];
+
+const FOUND: [(Step, Answer); 3] = [
+    (Step::Get(1), Answer::Blob(4050)),
+    (Step::Get(2), Answer::Blob(4000)),
+    (Step::Get(3), Answer::Blob(5)),
+];
+
+#[test]
+fn full_comes_where_no_segment_has_room(rt: HostRuntime) -> Result<(), Fail> {
+    assert_kept(&rt, rt.alloc(), &FILLED, &FOUND, 3)
+}
+
+/// An ask through the port.
+fn asked<P: ReplicaPort>(port: &mut P, ask: Ask) -> Answer
+    requires ready { P.ready port.old }
+    requires range { AsksInRange ask }
+{
+    answer_of(&port.ask(ask))
+}
+
+#[test]
+fn a_replica_is_a_port(rt: HostRuntime) -> Result<(), Fail> {
+    let alloc = rt.alloc();
+    let mut replica = open(&rt, alloc, new_disk(alloc, 2, Pick::Drop)?, 2);
+    let blob = blob_of(alloc, 2)?;
+    let id = id_of(1);
+    assert_eq!(rt; asked(&mut replica, Ask::Put { id, blob }), Answer::Stored);
+    assert_eq!(rt;
+        asked(&mut replica, Ask::Delete { id, at: 9 }),
+        Answer::Done
+    );
+    assert_eq!(rt; asked(&mut replica, Ask::Get { id }), Answer::Gone);
+    Ok(())
+}
+
+/// The device calls of an opening of a log without records.
+const OPENING: u64 = 3;
+
+/// A put that is cut off, and what is asked then.
+const CUT: [(Step, Answer); 5] = [
+    (Step::Put(1, 2), Answer::Fault),
+    (Step::Get(1), Answer::Down),
+    (Step::Peek(1), Answer::Down),
+    (Step::Delete(1), Answer::Down),
+    (Step::MergeAbsent(1), Answer::Down),
+];
+
+/// A put whose four calls pass, and asks that need no call of the disk, and one that does.
+const WHOLE: [(Step, Answer); 6] = [
+    (Step::Put(1, 2), Answer::Stored),
+    (Step::Peek(1), Answer::There),
+    (Step::Get(2), Answer::Absent),
+    (Step::MergeAbsent(2), Answer::Done),
+    (Step::MergeBlob(1, 3), Answer::Done),
+    (Step::Get(1), Answer::Fault),
+];
+
+/// Puts a blob on a disk that passes so many calls of the append: the disk.
+fn cut_put(rt: &impl Abort, alloc: Global, pick: Pick, passes: u32) -> Result<TestDisk, Fail> {
+    let disk = run(rt, alloc, new_disk(alloc, 2, pick)?, 2, &[], 0)?;
+    let mut replica = open(rt, alloc, fused(disk, OPENING + u64::from(passes)), 2);
+    if passes < 4 {
+        assert_steps(rt, alloc, &mut replica, &CUT)?;
+    } else {
+        assert_steps(rt, alloc, &mut replica, &WHOLE)?;
+    }
+    Ok(replica.close())
+}
+
+/// Stops a disk and opens it again: what a get answers.
+fn get_after_stop(rt: &impl Abort, alloc: Global, mut disk: TestDisk) -> Answer {
+    disk.stopped();
+    let mut replica = open(rt, alloc, disk, 2);
+    answer_of(&replica.get(&id_of(1)))
+}
+
+/// Cuts a put off in each of its calls. `opened` is what is found where the open gate was written and not synced.
+fn assert_cuts(rt: &impl Abort, alloc: Global, pick: Pick, opened: Answer) -> Result<(), Fail> {
+    for (passes, left) in [
+        (0, Answer::Absent),
+        (1, Answer::Absent),
+        (2, opened),
+        (3, opened),
+        (4, Answer::Blob(2)),
+    ] {
+        let disk = cut_put(rt, alloc, pick, passes)?;
+        let found = get_after_stop(rt, alloc, disk);
+        assert_eq!(rt; found, left, "cut after {passes} calls at {pick:?}");
+    }
+    Ok(())
+}
+
+#[test]
+fn a_cut_put_is_settled_by_the_opening(rt: HostRuntime) -> Result<(), Fail> {
+    for (pick, opened) in [
+        (Pick::Keep, Answer::Blob(2)),
+        (Pick::Drop, Answer::Absent),
+        (Pick::Fill(0x4F), Answer::Blob(2)),
+        (Pick::Fill(0), Answer::Absent),
+    ] {
+        assert_cuts(&rt, rt.alloc(), pick, opened)?;
+    }
+    Ok(())
+}
