@@ -29,4 +29,4 @@ gives_nothing plan decides calls h = inl (sym (answer_given plan decides calls h
 
 pub gives_decided : (plan : Plan) (decides : List Call → Option Outcome) (calls : List Call) (outcome : Option Outcome) → StandsAt plan decides Stage.Running calls → IsOrMemory (decides calls) outcome → Gives plan calls outcome
 gives_decided plan decides calls outcome h (inl e) = inl (ap (λ (o : Option Outcome). poll_of o) e ∙ sym (answer_running plan decides calls h))
-gives_decided plan decides calls outcome h (inr m) = inr (m.0, ap (λ (o : Option Outcome). is_done o) h.outcome ∙ m.1)
+gives_decided plan decides calls outcome h (inr m) = inr (ap (λ (o : Option Outcome). poll_of o) m.0, ap (λ (o : Option Outcome). is_done o) h.outcome ∙ m.1, h.given)

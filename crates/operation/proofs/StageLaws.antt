@@ -1,5 +1,5 @@
 -- An operation's stage goes on by one call.
-use Rattle.std.proofs.Common.{◌≡◌, ◌⊎◌, inl, inr, ℕ, Bool, true, false, ◌||◌, cond, List, [], ◌∷◌, Option, Some, None, refl, sym, ap, ◌∙◌, subst}
+use Rattle.std.proofs.Common.{◌≡◌, inl, inr, ℕ, Bool, true, false, ◌||◌, cond, List, [], ◌∷◌, Option, Some, None, refl, sym, ap, ◌∙◌, subst}
 use Rattle.blob_id.specs.declared.blob.Blob.{Blob}
 use Rattle.cell_model.specs.declared.ask.Reply.{Reply}
 use Rattle.quorum_op.specs.declared.cause.Cause.{Cause}
@@ -149,15 +149,7 @@ answer_starved plan decides calls h = ap (λ (b : Bool). cond b Poll.Pending (po
 pub answer_given : (plan : Plan) (decides : List Call → Option Outcome) (calls : List Call) → StandsAt plan decides Stage.Given calls → answer plan calls ≡ Poll.Pending
 answer_given plan decides calls h = ap (λ (b : Bool). cond b Poll.Pending (poll_of (plan.outcome calls))) h.given
 
--- what a running operation answers where it came to this, or to want of memory
-pub polled : (plan : Plan) (decides : List Call → Option Outcome) (calls : List Call) (result : Option Outcome) → StandsAt plan decides Stage.Running calls → IsOrMemory (decides calls) result
-    → (poll_of result ≡ answer plan calls) ⊎ (poll_of result ≡ Poll.Done Outcome.Memory) × (is_done (plan.outcome calls) ≡ true)
-polled plan decides calls result h comes = elim comes [
-  | inl e ↦ inl (ap (λ (o : Option Outcome). poll_of o) e ∙ sym (answer_running plan decides calls h))
-  | inr w ↦ inr (ap (λ (o : Option Outcome). poll_of o) w.0, ap (λ (o : Option Outcome). is_done o) h.outcome ∙ w.1)
-]
-
--- and where it came to something there is an outcome
+-- where a running operation came to something there is an outcome
 pub comes_done : (plan : Plan) (decides : List Call → Option Outcome) (calls : List Call) (result : Outcome) → StandsAt plan decides Stage.Running calls → IsOrMemory (decides calls) (Some result) → is_done (plan.outcome calls) ≡ true
 comes_done plan decides calls result h comes = elim comes [
   | inl e ↦ ap (λ (o : Option Outcome). is_done o) (h.outcome ∙ sym e)

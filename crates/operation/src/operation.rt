@@ -1,9 +1,8 @@
 //! What every operation does.
 
-ghost use Rattle.std.specs.Prelude.{◌≡◌, ◌⊎◌, ◌++◌, ◌∷◌, ◌^◌, ◌<◌, List, Some, true, IfOk};
-ghost use Rattle.operation.specs.Calls.{Call, Cancelled, Missed, Plan, Replied, after_poll, answer, asked_frame, is_done, sent_all, unless_nothing, unless_starved};
-ghost use Rattle.operation.specs.declared.sending.Poll.{Poll};
-ghost use Rattle.quorum_op.specs.declared.outcome.Outcome.{Outcome};
+ghost use Rattle.std.specs.Prelude.{◌≡◌, ◌++◌, ◌∷◌, List, Some, IfOk};
+ghost use Rattle.operation.specs.Calls.{Call, Cancelled, Missed, Plan, Replied, after_poll, asked_frame, sent_all, unless_nothing, unless_starved};
+ghost use Rattle.operation.specs.Giving.{Polls};
 ghost use Rattle.req_frame.specs.declared.frame.Body.{Body};
 ghost use Rattle.req_frame.specs.Reading.{frame_of};
 
@@ -53,6 +52,6 @@ pub trait Operation {
     /// Gives the outcome, once. Where there is no memory for it, the outcome is want of memory.
     fn poll(&mut self, alloc: Global) -> Poll
         ensures same { plan self.new ≡ plan self.old }
-        ensures answers { (calls : List Call) → stands self.old calls → (result ≡ answer (plan self.old) calls) ⊎ (result ≡ Poll.Done Outcome.Memory) × (is_done ((plan self.old).outcome calls) ≡ true) }
+        ensures answers { (calls : List Call) → stands self.old calls → Polls (plan self.old) calls result }
         ensures goes_on { (calls : List Call) → stands self.old calls → stands self.new (after_poll result calls) };
 }
