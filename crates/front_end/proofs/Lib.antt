@@ -16,7 +16,6 @@ pub mod LineLemmas
 pub mod WriteLemmas
 pub mod RunLemmas
 pub mod EndLemmas
-pub mod WordLemmas
 pub mod RunOnLemmas
 pub mod TimelyLemmas
 pub mod RecordLemmas

@@ -3,6 +3,7 @@ use Rattle.std.proofs.Common.{◌≡◌, ℕ, List, Option, refl, subst}
 use Rattle.mem_fabric.specs.Network.{nothing_held}
 use Rattle.mem_fabric.specs.Played.{IsPlayed}
 use Rattle.router_core.specs.Fits.{RouterView}
+use Rattle.router_core.specs.Removals.{DeletesWhatFailed}
 use Rattle.router_core.specs.Stages.{simple_rules}
 use Rattle.router_core.specs.Stands.{OwnsStage, Stands}
 use Rattle.router_core.specs.Ties.{IsWoven}
@@ -26,7 +27,13 @@ use Rattle.front_end.proofs.TimelyLemmas.{open_in_time}
 stage_kept : (shape : Shape) (r : Record) (stage : Stage) → OwnsStage shape r stage → IsKept (simple_rules shape) r
 stage_kept shape r Stage.Idle owns = owns.going.kept
 stage_kept shape r (Stage.UnderWay live) owns = owns.under_way.going.kept
-stage_kept shape r (Stage.Over operation outcome) owns = owns.going.kept
+stage_kept shape r (Stage.Over operation outcome) owns = owns.over.going.kept
+
+-- and over which each replica was asked to delete what failed
+stage_deletes : (shape : Shape) (r : Record) (stage : Stage) → OwnsStage shape r stage → DeletesWhatFailed shape r
+stage_deletes shape r Stage.Idle owns = owns.going.deletes
+stage_deletes shape r (Stage.UnderWay live) owns = owns.under_way.going.deletes
+stage_deletes shape r (Stage.Over operation outcome) owns = owns.over.going.deletes
 
 -- replicas that hold nothing are sound, and name no id
 nothing_sound : IsSound nothing_held
@@ -53,6 +60,7 @@ recorded shape router moves calls marks safe same played run w =
       kept = kept;
       safe = λ fresh. safe (simple_rules shape) nothing_held r nothing_sound (nothing_new r fresh) ran kept;
       in_time = open_in_time shape r;
+      deletes = subst (λ (s : Shape). DeletesWhatFailed s r) same (stage_deletes router.shape r router.stage w.so.owns.stage);
     }
 
 -- a tie seen otherwise

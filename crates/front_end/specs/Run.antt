@@ -6,6 +6,7 @@ use Rattle.front_end.specs.declared.run.Ending.TheVariants.{AtEnd, AtEndLine, Pa
 use Rattle.front_end.specs.declared.script.Command.TheVariants as command
 use Rattle.mem_fabric.specs.Network.{nothing_held}
 use Rattle.mem_fabric.specs.Played.{IsPlayed}
+use Rattle.router_core.specs.Removals.{DeletesWhatFailed}
 use Rattle.router_core.specs.Stages.{simple_rules}
 use Rattle.router_core.specs.Ties.{IsWoven}
 use Rattle.world_model.specs.declared.history.HistoryMark.{HistoryMark}
@@ -146,7 +147,8 @@ RequestsEndInTime shape record' = (a : Asked) → Has (Notes.asked record') a �
 
 -- What is told of a run by its moves and marks: a record of the network's steps and events and of a session's items, woven. The steps are those of an
 -- opening, of sends, and of just these moves, in order and by the rule of moves, on replicas that held nothing; they are allowed. A router kept
--- its rules, and where the ids that it drew are new the record is safe. No request to a replica stays open for 65,536 events.
+-- its rules, and where the ids that it drew are new the record is safe. No request to a replica stays open for 65,536 events. Of each operation that
+-- ended, and not as a put that is ok, each replica was asked to delete what it drew.
 pub record IsRecorded (shape : Shape) (moves : List Move) (marks : List HistoryMark) : Type 0 where
   pub calls : List Called
   pub played : IsPlayed shape moves calls
@@ -156,6 +158,7 @@ pub record IsRecorded (shape : Shape) (moves : List Move) (marks : List HistoryM
   pub kept : IsKept (simple_rules shape) record'
   pub safe : Each DrawsFresh record' → Safe (simple_rules shape) nothing_held record'
   pub in_time : RequestsEndInTime shape record'
+  pub deletes : DeletesWhatFailed shape record'
 
 -- Nothing was read, drawn or written.
 pub record IsUntouched (o : Outside) : Type 0 where

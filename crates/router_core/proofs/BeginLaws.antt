@@ -27,11 +27,11 @@ use Rattle.router_core.specs.declared.router.Stage.{Stage}
 use Rattle.router_core.specs.Beginning.{BeginsAs, IsRefused, begin_items}
 use Rattle.router_core.specs.Fits.{DoesJob, RouterView}
 use Rattle.router_core.specs.Jobs.{Job, Puts, Gets, Deletes, HasDrawnId, IsServed, begun_as, piece_for, target_for}
-use Rattle.router_core.specs.Stages.{simple_rules, AimsBelow, AimsWithin, IsIdle, IsOver, IsUnderWay}
-use Rattle.router_core.specs.Stands.{Counts, Owns, OwnsLive, OwnsStage, Stands, is_idle}
+use Rattle.router_core.specs.Stages.{simple_rules, AimsBelow, AimsWithin, IsIdle, IsUnderWay}
+use Rattle.router_core.specs.Stands.{Counts, HasLeft, Owns, OwnsLive, OwnsStage, Stands, is_idle}
 use Rattle.router_core.specs.Ties.{Ties}
 use Rattle.router_core.proofs.AimLaws.{below_stays, none_said, within_stays}
-use Rattle.router_core.proofs.StageLaws.{begins, decides, draws, drew_nothing, no_requests}
+use Rattle.router_core.proofs.StageLaws.{begins, decides, deletes_on, draws, drew_nothing, no_requests}
 use Rattle.router_core.proofs.TieLaws.{tie_items, tie_same}
 
 -- ---- the next operation
@@ -101,6 +101,7 @@ put_owned shape r operation moment id body live i w clock e l small served chose
       numbered = tt;
       counted = omega arith;
       for_piece = tt;
+      kept_all = tt;
     }
 
 pub ties_put : (old : RouterView) (id : BlobId) (body : List ℕ) (live : Live) (told : Option (List Called)) (marks : List HistoryMark) → is_idle old.stage ≡ true → old.begun + 1 < 2 ^ 31 → length body ≤ old.shape.chunk → IsServed old.shape id
@@ -128,8 +129,11 @@ ties_put old id body live told marks idle l small served chosen same none does t
 -- ---- what is over at once
 
 over_owned : (shape : Shape) (r : Record) (operation : ℕ) (begun : Begun) (outcome : Outcome) → IsIdle (simple_rules shape) r → operation ≡ begun_in r + 1 → operation < 2 ^ 31 → Follows (simple_rules shape) (Marked (Begin operation begun) ∷ r) operation begun outcome
-    → outcome ≢ Outcome.Cancelled → IsOver (simple_rules shape) (Decided operation outcome ∷ Marked (Begin operation begun) ∷ r) operation outcome
-over_owned shape r operation begun outcome i e l f n = decides (simple_rules shape) (Marked (Begin operation begun) ∷ r) operation begun r 1 outcome (begins_next shape r operation begun i e l) f n
+    → outcome ≢ Outcome.Cancelled → HasLeft shape (Decided operation outcome ∷ Marked (Begin operation begun) ∷ r) operation outcome
+over_owned shape r operation begun outcome i e l f n = record {
+  over = decides (simple_rules shape) (Marked (Begin operation begun) ∷ r) operation begun r 1 outcome (begins_next shape r operation begun i e l) f n;
+  deletes = deletes_on shape (Decided operation outcome) (Marked (Begin operation begun) ∷ r) operation outcome (λ id blob x. cc x) (λ none id blob h replica low. absurd (none_drawn shape r operation begun i e Top 0 id blob h));
+}
 
 pub ties_too_large : (old : RouterView) (size : ℕ) (body : List ℕ) (told : Option (List Called)) (marks : List HistoryMark) → is_idle old.stage ≡ true → old.begun + 1 < 2 ^ 31 → old.shape.chunk < size → length body ≡ size → Ties (Stands old) told marks
     → Ties (Stands (record { shape = old.shape; clock = old.clock; events = old.events; begun = old.begun + 1; stage = Stage.Over (old.begun + 1) (Outcome.TooLarge size) })) told (Begin (old.begun + 1) (Begun.Put [] body 0 [] []) ∷ marks)
@@ -209,6 +213,7 @@ job_owned shape r clock operation job live l same none does drawn i w c e =
       numbered = tt;
       counted = omega arith;
       for_piece = tt;
+      kept_all = tt;
     }
 
 pub get_begins : (shape : Shape) (clock operation : ℕ) (id : BlobId) (live : Live) → operation < 2 ^ 31 → live.operation ≡ operation → live.requests ≡ [] → DoesJob shape clock (Gets id) live.op [] → BeginsAs shape clock operation (Begun.Get (Some id) None []) (Stage.UnderWay live)

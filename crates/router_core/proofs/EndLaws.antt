@@ -14,7 +14,7 @@ use Rattle.router_core.specs.declared.router.Stage.{Stage}
 use Rattle.router_core.specs.Ending.{end_items, end_of}
 use Rattle.router_core.specs.Fits.{FitsStage, IsAnswer, RouterView}
 use Rattle.router_core.specs.Stages.{simple_rules}
-use Rattle.router_core.specs.Stands.{At, Counts, Leaves, Owns, OwnsLive, OwnsStage, RestsStage, Stands, StageWaits, Waits, end_marks, is_idle, is_under_way}
+use Rattle.router_core.specs.Stands.{At, Counts, GivesAllUp, HasLeft, IsSettled, Owns, OwnsLive, OwnsStage, RestsStage, Stands, StageWaits, Waits, end_marks, is_idle, is_under_way}
 use Rattle.router_core.specs.Ties.{Ties}
 use Rattle.router_core.proofs.AimLaws.{within_stays}
 use Rattle.router_core.proofs.StageLaws.{ends}
@@ -28,9 +28,9 @@ counts_decided clock events begun operation outcome r c =
 
 -- an operation is over
 pub ties_over : (shape : Shape) (clock events begun : ℕ) (old new : Live) (outcome : Outcome) (told : Option (List Called)) (marks : List HistoryMark)
-    → ((r : Record) → OwnsLive shape r old [] → Leaves shape (Decided old.operation outcome ∷ r) new outcome []) → Ties (At (λ r. OwnsLive shape r old []) clock events begun) told marks → Ties (At (λ r. Leaves shape r new outcome []) clock events begun) told marks
+    → ((r : Record) → OwnsLive shape r old [] → IsSettled shape (Decided old.operation outcome ∷ r) new outcome) → Ties (At (λ r. OwnsLive shape r old []) clock events begun) told marks → Ties (At (λ r. IsSettled shape r new outcome) clock events begun) told marks
 ties_over shape clock events begun old new outcome told marks over t =
-    tie_items (At (λ r. OwnsLive shape r old []) clock events begun) (At (λ r. Leaves shape r new outcome []) clock events begun) (Decided old.operation outcome ∷ []) told marks (refl, tt)
+    tie_items (At (λ r. OwnsLive shape r old []) clock events begun) (At (λ r. IsSettled shape r new outcome) clock events begun) (Decided old.operation outcome ∷ []) told marks (refl, tt)
     (λ r h. (counts_decided clock events begun old.operation outcome r h.0, over r h.1)) t
 
 -- a stage with an operation under way, as it was and as it rests
@@ -44,10 +44,14 @@ ties_waits shape clock events begun live stage told marks is t =
     subst (λ (s : Stage). Ties (At (λ r. RestsStage shape r s) clock events begun) told marks) (sym is)
     (tie_same (At (λ r. Waits shape r live) clock events begun) (At (λ r. RestsStage shape r (Stage.UnderWay live)) clock events begun) told marks t (λ r h. (h.0, (h.1.0, h.1))))
 
-pub ties_left : (shape : Shape) (clock events begun : ℕ) (live : Live) (outcome : Outcome) (told : Option (List Called)) (marks : List HistoryMark) → Ties (At (λ r. Leaves shape r live outcome []) clock events begun) told marks
+-- none is left to be asked
+has_left : (shape : Shape) (r : Record) (live : Live) (outcome : Outcome) → GivesAllUp shape r live outcome [] → HasLeft shape r live.operation outcome
+has_left shape r live outcome g = record { over = g.0.over; deletes = λ none id blob h replica l. elim (g.1 none id blob h replica l) [ inl a ↦ a | inr w ↦ absurd w.there ] }
+
+pub ties_left : (shape : Shape) (clock events begun : ℕ) (live : Live) (outcome : Outcome) (told : Option (List Called)) (marks : List HistoryMark) → Ties (At (λ r. GivesAllUp shape r live outcome []) clock events begun) told marks
     → Ties (At (λ r. RestsStage shape r (Stage.Over live.operation outcome)) clock events begun) told marks
 ties_left shape clock events begun live outcome told marks t =
-    tie_same (At (λ r. Leaves shape r live outcome []) clock events begun) (At (λ r. RestsStage shape r (Stage.Over live.operation outcome)) clock events begun) told marks t (λ r h. (h.0, (h.1.over, tt)))
+    tie_same (At (λ r. GivesAllUp shape r live outcome []) clock events begun) (At (λ r. RestsStage shape r (Stage.Over live.operation outcome)) clock events begun) told marks t (λ r h. (h.0, (has_left shape r live outcome h.1, tt)))
 
 rests_idle : (shape : Shape) (r : Record) (stage : Stage) → is_under_way stage ≡ false → OwnsStage shape r stage → RestsStage shape r stage
 rests_idle shape r Stage.Idle h o = (o, tt)
@@ -93,7 +97,7 @@ end_counts clock events begun (Some ended) r c =
 stage_ends : (shape : Shape) (r : Record) (stage : Stage) → is_under_way stage ≡ false → OwnsStage shape r stage → OwnsStage shape (end_items (end_of stage) ++ r) Stage.Idle
 stage_ends shape r Stage.Idle rest owns = owns
 stage_ends shape r (Stage.UnderWay live) rest owns = absurd cc
-stage_ends shape r (Stage.Over operation outcome) rest owns = ends (simple_rules shape) r operation outcome owns
+stage_ends shape r (Stage.Over operation outcome) rest owns = ends (simple_rules shape) r operation outcome owns.over owns.deletes
 
 -- a router that has no operation under way is idle behind the end that it gives
 pub ended_stands : (old new : RouterView) (told : Option (List Called)) (marks : List HistoryMark) → new.shape ≡ old.shape → new.clock ≡ old.clock → new.events ≡ old.events → new.begun ≡ old.begun → new.stage ≡ Stage.Idle

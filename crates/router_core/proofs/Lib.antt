@@ -1,6 +1,7 @@
 pub mod WantLaws
 pub mod StickyLaws
 pub mod StageLaws
+pub mod RemovalLaws
 pub mod TieLaws
 pub mod AimLaws
 pub mod AskLaws

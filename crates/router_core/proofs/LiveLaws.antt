@@ -1,6 +1,5 @@
 -- How what a router keeps of the operation under way goes on with the record.
-use Rattle.std.proofs.Common.{◌≡◌, ◌≢◌, ℕ, suc, ◌+◌, ◌*◌, ◌^◌, ◌<◌, ◌≤◌, Bool, true, cond, List, [], ◌∷◌, ◌++◌, length, map, Option, Some, None, refl, sym, ap, ◌∙◌, subst, inl, inr, arith}
-use Rattle.std.proofs.lemmas.Bool.{lt-ltb}
+use Rattle.std.proofs.Common.{◌≡◌, ◌≢◌, ℕ, suc, ◌+◌, ◌*◌, ◌^◌, ◌<◌, ◌≤◌, true, false, List, [], ◌∷◌, ◌++◌, length, map, Option, Some, None, refl, sym, ap, ◌∙◌, subst, inl, inr, arith}
 use Rattle.blob_id.specs.declared.id.BlobId.{BlobId}
 use Rattle.cell_model.specs.declared.ask.Reply.{Reply}
 use Rattle.quorum_op.specs.declared.cause.Cause.{Cause}
@@ -14,14 +13,14 @@ use Rattle.world_model.specs.declared.step.Step.{Step}
 use Rattle.world_model.specs.Frames.{frame_in}
 use Rattle.world_model.specs.Lists.{Has}
 use Rattle.world_model.specs.Notes
-use Rattle.world_model.specs.Notes.{Asked, ask_as, asked, is_of, clock_of, events_in, operation_of, router_frame}
-use Rattle.world_model.specs.Record.{Item, Top, Aimed, Decided, Took, Given, Record}
+use Rattle.world_model.specs.Notes.{Asked, ask_as, asked, is_of, clock_of, events_in, router_frame}
+use Rattle.world_model.specs.Record.{Item, Top, Aimed, Decided, Drawn, Took, Given, Record}
 use Rattle.world_model.specs.Shape.{IsShape, replica_of}
 use Rattle.world_model.specs.Told.{AllNetwork}
 use Rattle.world_model.proofs.NoteLaws.{decoded_frame}
 use Rattle.operation.specs.declared.sending.Sending.{Sending}
 use Rattle.operation.specs.Calls.{Call, Sent, Missed, Polled, sent_all, sent_in, stop_by}
-use Rattle.operation.specs.Wants.{next_request}
+use Rattle.operation.specs.Wants.{is_given_up, next_request}
 use Rattle.put_op.specs.Puts.{put_decides}
 use Rattle.get_op.specs.Gets.{get_decides}
 use Rattle.delete_op.specs.Deletes.{delete_decides}
@@ -37,14 +36,16 @@ use Rattle.op_table.proofs.TiedLaws.{batch_added, event_told, item_stays, networ
 use Rattle.router_core.specs.declared.live.Live.{Live}
 use Rattle.router_core.specs.Answers.{placed}
 use Rattle.router_core.specs.Fits.{DoesJob, IsAnswer}
-use Rattle.router_core.specs.Jobs.{Job, Puts, Gets, Deletes, EachIs, GoOnFrom, GoesOn, HasDrawnId, IsForPiece, begun_as, delete_task, get_task, piece_for, plan_for, put_task, target_for}
+use Rattle.router_core.specs.Jobs.{Job, Puts, Gets, Deletes, DrewOnly, EachIs, GoOnFrom, GoesOn, HasDrawnId, IsForPiece, WasGiven, begun_as, delete_task, get_task, piece_for, plan_for, put_task, target_for}
 use Rattle.router_core.specs.Requests.{correlation_for, entry_for, node_for}
 use Rattle.router_core.specs.Stages.{simple_rules, AimsBelow, AsksBelow, IsUnderWay, IsOver}
-use Rattle.router_core.specs.Stands.{IsPending, Leaves, OwnsLive, order, outcome_now, wants_now}
+use Rattle.router_core.specs.Removals.{IsNoStore, IsToDelete}
+use Rattle.router_core.specs.Stands.{GivesAllUp, IsPending, IsSettled, Leaves, OwnsLive, order, outcome_now, wants_now}
 use Rattle.router_core.proofs.AimLaws.{below_aimed, below_more, below_stays, below_took}
 use Rattle.router_core.proofs.AskLaws.{aimed_record, drawn_later, frame_for, is_for_piece, own_request, sendable, sends_entry}
 use Rattle.router_core.proofs.FollowLaws.{follows}
-use Rattle.router_core.proofs.StageLaws.{aims, decides, given, network, refused, sends}
+use Rattle.router_core.proofs.RemovalLaws.{all_wanted, drew_only}
+use Rattle.router_core.proofs.StageLaws.{aims, decides, given, low_frame, network, refused, sends}
 use Rattle.router_core.proofs.StickyLaws.{decides_for, outcome_is}
 use Rattle.router_core.proofs.WantLaws.{wants_numbered, wants_over, wants_pending}
 
@@ -93,6 +94,14 @@ each_has : (P : Sending → Type 0) (batch : List Sending) → EachIs P batch �
 each_has P [] e s h = absurd h
 each_has P (x ∷ rest) e s h = elim h [ inl q ↦ subst P (sym q) e.0 | inr t ↦ each_has P rest e.1 s t ]
 
+each_sent : (P : Sending → Type 0) (batch : List Sending) (calls : List Call) → EachIs P batch → EachIs P (sent_in calls) → EachIs P (sent_in (sent_all batch calls))
+each_sent P [] calls b e = e
+each_sent P (s ∷ rest) calls b e = each_sent P rest (Sent s ∷ calls) b.1 (b.0, e)
+
+no_removals : (shape : Shape) (moment : ℕ) (job : Job) (batch : List Sending) → EachIs (IsForPiece shape moment job) batch → EachIs (λ sending. is_given_up sending.purpose ≡ false) batch
+no_removals shape moment job [] e = tt
+no_removals shape moment job (s ∷ rest) e = (ap is_given_up e.0.purpose, no_removals shape moment job rest e.1)
+
 -- ---- the network, and what it gives
 
 pub live_took : (shape : Shape) (steps : List Step) (r : Record) (live : Live) → AllNetwork steps → OwnsLive shape r live [] → OwnsLive shape (map Took steps ++ r) live []
@@ -116,6 +125,7 @@ live_took shape steps r live all o =
       numbered = tt;
       counted = o.counted;
       for_piece = tt;
+      kept_all = o.kept_all;
     }
   where
     drawn_took : (steps : List Step) → HasDrawnId r live.operation (clock_of o.then) o.job → HasDrawnId (map Took steps ++ r) live.operation (clock_of o.then) o.job
@@ -154,6 +164,7 @@ live_given shape event r heard events old new n e told o =
       numbered = tt;
       counted = o.counted ∙ sym next;
       for_piece = tt;
+      kept_all = subst (λ (l : List Sending). EachIs (λ sending. is_given_up sending.purpose ≡ false) l) (sym (sent_told heard (told_all heard events old.requests) o.calls)) o.kept_all;
     }
 
 -- ---- requests
@@ -191,6 +202,7 @@ live_added shape r old new pending same kept does =
       numbered = numbers;
       counted = next_sent batch o.calls;
       for_piece = for_piece;
+      kept_all = each_sent (λ sending. is_given_up sending.purpose ≡ false) batch o.calls (no_removals shape moment o.job batch for_piece) o.kept_all;
     }
 
 -- the record with what the next request is for
@@ -275,6 +287,7 @@ live_sent shape r clock events old new s rest bytes o is g same kept does =
       numbered = o.numbered.1;
       counted = omega (arith, c);
       for_piece = o.for_piece.1;
+      kept_all = o.kept_all;
     }
 
 pub live_refused : (shape : Shape) (r : Record) (clock events : ℕ) (old new : Live) (s : Sending) (rest : List Sending) (bytes : List ℕ) (o : OwnsLive shape r old (s ∷ rest)) → IsShape shape → old.operation < 2 ^ 31
@@ -294,7 +307,7 @@ live_refused shape r clock events old new s rest bytes o is number g same kept d
     let entry = goes_out_entry shape r clock events old s rest o bytes is g in
     let out = refused rules (aimed_record old.operation s r) old.operation (begun_as o.job) o.then s.request (node_for shape s) f (record { part = Top; attempt = 0 }) bytes mid.under_way
     (sendable shape old.operation s.request o.job s o.then r is o.for_piece.0 refl some g.small mid.under_way o.drawn o.does.served) (decoded_frame bytes f g.reads) in
-    let own : router_frame (frame_in bytes) ≡ Some f = ap router_frame (decoded_frame bytes f g.reads) ∙ ap (λ (b : Bool). cond b (Some f) None) (lt-ltb f.correlation (2 ^ 63) (low_number old.operation s.request number low)) in
+    let own : router_frame (frame_in bytes) ≡ Some f = ap router_frame (decoded_frame bytes f g.reads) ∙ low_frame f (low_number old.operation s.request number low) in
     let fails : FailsToSend shape (piece_for old.operation o.job) (aimed_record old.operation s r) s.replica (node_for shape s) f = record {
       fits = subst (λ (x : Frame). is_of (piece_for old.operation o.job) (ask_as x (node_for shape s) (aimed_record old.operation s r)) ≡ true) (same_frame bytes entry.frame f entry.reads (decoded_frame bytes f g.reads)) entry.fits;
       stands = subst (λ (x : Frame). replica_of shape x.partition (node_for shape s) ≡ Some s.replica) (same_frame bytes entry.frame f entry.reads (decoded_frame bytes f g.reads)) entry.entry.replica;
@@ -321,6 +334,7 @@ live_refused shape r clock events old new s rest bytes o is number g same kept d
       numbered = o.numbered.1;
       counted = omega (arith, c);
       for_piece = o.for_piece.1;
+      kept_all = o.kept_all;
     }
   where
     same_frame : (bytes : List ℕ) (a b : Frame) → frame_in bytes ≡ Some a → frame_in bytes ≡ Some b → a ≡ b
@@ -365,35 +379,42 @@ placed_put shape Outcome.Memory id e = absurd cc
 
 -- What is over by its calls is over in the record, and may still give up what it has drawn.
 pub live_over : (shape : Shape) (r : Record) (old new : Live) (how : Outcome) (o : OwnsLive shape r old []) → outcome_now o ≡ Some how → IsAnswer shape (placed shape how) → new.operation ≡ old.operation
-    → ((moment : ℕ) (job : Job) (calls : List Call) → DoesJob shape moment job old.op calls → DoesJob shape moment job new.op (Polled ∷ calls)) → Leaves shape (Decided old.operation (placed shape how) ∷ r) new (placed shape how) []
+    → ((moment : ℕ) (job : Job) (calls : List Call) → DoesJob shape moment job old.op calls → DoesJob shape moment job new.op (Polled ∷ calls)) → IsSettled shape (Decided old.operation (placed shape how) ∷ r) new (placed shape how)
 live_over shape r old new how o came answer same does =
     let rules = simple_rules shape in
     let moment = clock_of o.then in
     let item : Item = Decided old.operation (placed shape how) in
     let decided : decides_for shape moment o.job o.calls ≡ Some how = sym (outcome_is shape moment o.job o.calls o.goes_on) ∙ came in
     let why = follows shape r old.operation moment o.job o.calls how o.drawn o.does.served o.does.given o.owns.owns.notes o.owns.owns.blob decided in
-    let over = decides rules r old.operation (begun_as o.job) o.then o.next (placed shape how) o.under_way why (not_cancelled (placed shape how) answer) in
-    record {
-      job = o.job;
-      moment = moment;
-      calls = Polled ∷ o.calls;
-      next = o.next;
-      from = o.from;
-      over = subst (λ (k : ℕ). IsOver rules (item ∷ r) k (placed shape how)) (sym same) over;
-      asks = subst (λ (k : ℕ). AsksBelow (item ∷ r) k o.next) (sym same) o.under_way.below;
-      aims = subst (λ (k : ℕ). AimsBelow (item ∷ r) k o.next) (sym same) (below_stays item r old.operation o.next o.next (λ x p a e. absurd cc) (omega arith) o.aims);
-      drawn = subst (λ (k : ℕ). HasDrawnId (item ∷ r) k moment o.job) (sym same) (drawn_later item r old.operation moment o.job o.drawn);
-      does = does moment o.job o.calls o.does;
-      how = how;
-      came = outcome_later shape moment o.job Polled o.calls how came;
-      same = λ id e. placed_put shape how id e;
-      some = o.some;
-      ahead = o.ahead;
-      numbered = tt;
-      counted = o.counted;
-      giving = tt;
-    }
+    let over = decides rules r old.operation (begun_as o.job) o.then o.next (placed shape how) o.under_way why (not_cancelled (placed shape how) answer) in (
+      record {
+        job = o.job;
+        moment = moment;
+        calls = Polled ∷ o.calls;
+        next = o.next;
+        from = o.from;
+        over = subst (λ (k : ℕ). IsOver rules (item ∷ r) k (placed shape how)) (sym same) over;
+        asks = subst (λ (k : ℕ). AsksBelow (item ∷ r) k o.next) (sym same) o.under_way.below;
+        aims = subst (λ (k : ℕ). AimsBelow (item ∷ r) k o.next) (sym same) (below_stays item r old.operation o.next o.next (λ x p a e. absurd cc) (omega arith) o.aims);
+        drawn = subst (λ (k : ℕ). HasDrawnId (item ∷ r) k moment o.job) (sym same) (drawn_later item r old.operation moment o.job o.drawn);
+        drew_only = subst (λ (k : ℕ). DrewOnly (item ∷ r) k o.job) (sym same) drew;
+        does = does moment o.job o.calls o.does;
+        how = how;
+        came = outcome_later shape moment o.job Polled o.calls how came;
+        same = λ id e. placed_put shape how id e;
+        stored = λ id e. ap (λ (x : Outcome). placed shape x) e;
+        some = o.some;
+        ahead = o.ahead;
+        numbered = tt;
+        counted = o.counted;
+        giving = tt;
+      },
+      o.kept_all,
+    )
   where
+    drew : DrewOnly (Decided old.operation (placed shape how) ∷ r) old.operation o.job
+    drew = λ id blob h. elim h [ inl e ↦ absurd (cc e) | inr t ↦ drew_only shape r old.operation (clock_of o.then) o.job o.then o.next o.under_way o.drawn id blob t ]
+
     not_cancelled : (outcome : Outcome) → IsAnswer shape outcome → outcome ≢ Outcome.Cancelled
     not_cancelled outcome answer e = let z : IsAnswer shape Outcome.Cancelled = subst (λ (o : Outcome). IsAnswer shape o) e answer in absurd z
 
@@ -414,13 +435,31 @@ leaves_added shape r old new outcome o same does =
       asks = subst (λ (k : ℕ). AsksBelow r k o.next) (sym same) o.asks;
       aims = subst (λ (k : ℕ). AimsBelow r k o.next) (sym same) o.aims;
       drawn = subst (λ (k : ℕ). HasDrawnId r k o.moment o.job) (sym same) o.drawn;
+      drew_only = subst (λ (k : ℕ). DrewOnly r k o.job) (sym same) o.drew_only;
       does = does o.calls o.does;
       how = o.how;
       came = outcome_sent shape o.moment o.job batch o.calls o.how o.came;
       same = o.same;
+      stored = o.stored;
       some = o.some;
       ahead = let c = o.counted in let a = o.ahead in omega (arith, c, a);
       numbered = wants_numbered shape o.moment o.job o.calls order o.does.given;
       counted = next_sent batch o.calls;
       giving = wants_over shape o.moment o.job o.calls order o.how o.does.given o.came;
     }
+
+-- and where that isn't the ok of a put, these are deletes of what it drew at each replica
+pub settled_added : (shape : Shape) (r : Record) (old new : Live) (outcome : Outcome) (o : IsSettled shape r old outcome) → new.operation ≡ old.operation
+    → ((calls : List Call) → DoesJob shape o.0.moment o.0.job old.op calls → DoesJob shape o.0.moment o.0.job new.op (sent_all ((plan_for shape o.0.moment o.0.job).wants calls order) calls))
+    → GivesAllUp shape r new outcome ((plan_for shape o.0.moment o.0.job).wants o.0.calls order)
+settled_added shape r old new outcome o same does = (
+  leaves_added shape r old new outcome o.0 same does,
+  λ none id blob h replica l. inr (todo none id (o.0.drew_only id blob (subst (λ (k : ℕ). Has r (Drawn k Top 0 id blob)) same h)) replica l),
+)
+  where
+    todo : IsNoStore outcome → (id : BlobId) → (body : List ℕ) × (o.0.job ≡ Puts id body) → (replica : ℕ) → replica < shape.replicas → IsToDelete ((plan_for shape o.0.moment o.0.job).wants o.0.calls order) id replica
+    todo none id p replica l =
+        let put : Job = Puts id p.0 in
+        subst (λ (j : Job). IsToDelete ((plan_for shape o.0.moment j).wants o.0.calls order) id replica) (sym p.1)
+        (all_wanted shape o.0.moment id p.0 o.0.calls order o.0.how (subst (λ (j : Job). WasGiven shape o.0.moment j o.0.calls) p.1 o.0.does.given)
+        (subst (λ (j : Job). (plan_for shape o.0.moment j).outcome o.0.calls ≡ Some o.0.how) p.1 o.0.came) (λ x e. none x (o.0.stored x e)) o.1 replica l)

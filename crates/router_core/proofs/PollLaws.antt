@@ -7,7 +7,8 @@ use Rattle.quorum_op.specs.declared.cause.Verdict.{Verdict}
 use Rattle.quorum_op.specs.declared.outcome.Outcome.{Outcome}
 use Rattle.quorum_op.specs.Counts.{or_else}
 use Rattle.operation.specs.declared.sending.Poll.{Poll}
-use Rattle.operation.specs.Calls.{Call, Sent, Replied, Missed, Drew, Cancelled, Starved, Polled, Plan, after_poll, answer, first_outcome, is_done, poll_of, stop_by, was_given}
+use Rattle.operation.specs.Giving.{Polls}
+use Rattle.operation.specs.Calls.{Call, Sent, Replied, Missed, Drew, Cancelled, Starved, Polled, Plan, after_poll, answer, first_outcome, poll_of, stop_by, was_given}
 use Rattle.operation.specs.Pieces.{blob_at, failed_at, verdict_at}
 use Rattle.put_op.specs.Puts.{Draw, drawn_in, put_decides, put_target, storing, storing_of}
 use Rattle.get_op.specs.Gets.{get_decides, get_target, read_outcome}
@@ -24,14 +25,10 @@ use Rattle.op_table.specs.declared.waiting.Waiting.{Waiting}
 use Rattle.op_table.specs.Tied.{OwnsCalls}
 use Rattle.world_model.specs.Notes.{clock_of}
 use Rattle.router_core.specs.Stages.{simple_rules, AimsBelow, IsUnderWay}
-use Rattle.router_core.specs.Stands.{IsPending, Leaves, OwnsLive}
+use Rattle.router_core.specs.Stands.{IsPending, IsSettled, OwnsLive}
 use Rattle.router_core.proofs.DoesLaws.{does_on, does_still, fits_as}
 use Rattle.router_core.proofs.LiveLaws.{live_over}
 use Rattle.router_core.proofs.StickyLaws.{drawn_stays, not_given}
-
--- it gives what its calls come to, or want of memory for it
-abbrev pub Gives : Plan → List Call → Poll → Type 0
-Gives plan calls result = (result ≡ answer plan calls) ⊎ (result ≡ Poll.Done Outcome.Memory) × (is_done (plan.outcome calls) ≡ true)
 
 some_same : (a b : Outcome) → Some a ≡ Some b → a ≡ b
 some_same a b e = cc
@@ -45,7 +42,7 @@ poll_some None how e = absurd cc
 poll_some (Some x) how e = cc
 
 -- one that is pending has come to nothing
-pub pending_is : (plan : Plan) (calls : List Call) (result : Poll) → GoesOn calls → result ≡ Poll.Pending → Gives plan calls result → plan.outcome calls ≡ None
+pub pending_is : (plan : Plan) (calls : List Call) (result : Poll) → GoesOn calls → result ≡ Poll.Pending → Polls plan calls result → plan.outcome calls ≡ None
 pending_is plan calls result goes is gives = elim gives [
   | inl e ↦ poll_none (plan.outcome calls) (sym (ap (λ (b : Bool). cond b Poll.Pending (poll_of (plan.outcome calls))) (not_given plan calls goes)) ∙ (sym e ∙ is))
   | inr m ↦ absurd (let a = m.0 in cc)
@@ -56,7 +53,7 @@ given_some true o how e = absurd cc
 given_some false o how e = poll_some o how e
 
 -- what is given has come so, but for want of memory
-pub given_is : (plan : Plan) (calls : List Call) (result : Poll) (how : Outcome) → result ≡ Poll.Done how → (how ≡ Outcome.Memory → ⊥) → Gives plan calls result → plan.outcome calls ≡ Some how
+pub given_is : (plan : Plan) (calls : List Call) (result : Poll) (how : Outcome) → result ≡ Poll.Done how → (how ≡ Outcome.Memory → ⊥) → Polls plan calls result → plan.outcome calls ≡ Some how
 given_is plan calls result how is some gives = elim gives [
   | inl e ↦ given_some (was_given plan calls) (plan.outcome calls) how (sym e ∙ is)
   | inr m ↦ absurd (some (same how (sym is ∙ m.0)))
@@ -78,7 +75,7 @@ fits_polled shape old new result same plan goes fits =
 
 -- one that is pending stays as it was
 pub live_pending : (shape : Shape) (r : Record) (old new : Live) → new.operation ≡ old.operation → new.requests ≡ old.requests → op_plan new.op ≡ op_plan old.op → ((calls : List Call) → op_stands old.op calls → op_stands new.op calls)
-    → ((calls : List Call) → op_stands old.op calls → Gives (op_plan old.op) calls Poll.Pending) → OwnsLive shape r old [] → IsPending shape r new
+    → ((calls : List Call) → op_stands old.op calls → Polls (op_plan old.op) calls Poll.Pending) → OwnsLive shape r old [] → IsPending shape r new
 live_pending shape r old new same kept plan goes gives o = (
   record {
     job = o.job;
@@ -98,6 +95,7 @@ live_pending shape r old new same kept plan goes gives o = (
     numbered = tt;
     counted = o.counted;
     for_piece = tt;
+    kept_all = o.kept_all;
   },
   sym (ap (λ (p : Plan). p.outcome o.calls) o.does.plan) ∙ pending_is (op_plan old.op) o.calls Poll.Pending o.goes_on refl (gives o.calls o.does.stands),
 )
@@ -183,7 +181,7 @@ outcome_answers shape moment (Deletes id) op calls o d e =
     (λ calls o x e. removal_answers shape id (verdict_at (delete_target (delete_task shape moment id)) calls) (failed_at (delete_target (delete_task shape moment id)) calls) o e) (inl refl) calls d.uncancelled tt o e
 
 -- what is given is an answer
-pub given_answers : (shape : Shape) (moment : ℕ) (job : Job) (op : Op) (calls : List Call) (result : Poll) (how : Outcome) → result ≡ Poll.Done how → (how ≡ Outcome.Memory → ⊥) → ((calls : List Call) → op_stands op calls → Gives (op_plan op) calls result)
+pub given_answers : (shape : Shape) (moment : ℕ) (job : Job) (op : Op) (calls : List Call) (result : Poll) (how : Outcome) → result ≡ Poll.Done how → (how ≡ Outcome.Memory → ⊥) → ((calls : List Call) → op_stands op calls → Polls (op_plan op) calls result)
     → DoesJob shape moment job op calls → IsAnswer shape (placed shape how)
 given_answers shape moment job op calls result how is some gives d =
     let came = given_is (op_plan op) calls result how is some (gives calls d.stands) in
@@ -191,8 +189,8 @@ given_answers shape moment job op calls result how is some gives d =
 
 -- and then it is over in the record
 pub live_given_over : (shape : Shape) (r : Record) (old new : Live) (result : Poll) (how : Outcome) → result ≡ Poll.Done how → (how ≡ Outcome.Memory → ⊥) → new.operation ≡ old.operation → op_plan new.op ≡ op_plan old.op
-    → ((calls : List Call) → op_stands old.op calls → Gives (op_plan old.op) calls result) → ((calls : List Call) → op_stands old.op calls → op_stands new.op (after_poll result calls)) → OwnsLive shape r old []
-    → Leaves shape (Decided old.operation (placed shape how) ∷ r) new (placed shape how) []
+    → ((calls : List Call) → op_stands old.op calls → Polls (op_plan old.op) calls result) → ((calls : List Call) → op_stands old.op calls → op_stands new.op (after_poll result calls)) → OwnsLive shape r old []
+    → IsSettled shape (Decided old.operation (placed shape how) ∷ r) new (placed shape how)
 live_given_over shape r old new result how is some same plan gives goes o =
     let came = given_is (op_plan old.op) o.calls result how is some (gives o.calls o.does.stands) in
     live_over shape r old new how o (sym (ap (λ (p : Plan). p.outcome o.calls) o.does.plan) ∙ came) (given_answers shape (clock_of o.then) o.job old.op o.calls result how is some gives o.does) same

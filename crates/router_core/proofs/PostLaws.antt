@@ -19,11 +19,11 @@ use Rattle.router_core.specs.Fits.{DoesJob}
 use Rattle.router_core.specs.Jobs.{Job, body_for}
 use Rattle.router_core.specs.Posting.{HasNoted, Posted}
 use Rattle.router_core.specs.Requests.{correlation_for, entry_for, node_for}
-use Rattle.router_core.specs.Stands.{At, Counts, Leaves, OwnsLive}
+use Rattle.router_core.specs.Stands.{At, Counts, GivesAllUp, Leaves, OwnsLive}
 use Rattle.router_core.specs.Ties.{Ties}
 use Rattle.router_core.proofs.AimLaws.{within_aimed, within_stays}
 use Rattle.router_core.proofs.AskLaws.{aimed_record, body_is, frame_for, own_operation}
-use Rattle.router_core.proofs.LeaveLaws.{leaves_refused, leaves_sent, removal_for, removal_is}
+use Rattle.router_core.proofs.LeaveLaws.{gives_refused, gives_sent, removal_for, removal_is}
 use Rattle.router_core.proofs.LiveLaws.{GoesOut, live_refused, live_sent}
 use Rattle.router_core.proofs.TieLaws.{items_refused, items_sent, tie_call, tie_items}
 
@@ -107,25 +107,25 @@ removal_spelled shape r live outcome s rest o told told' went p =
 
 pub ties_given_up : (shape : Shape) (clock events begun : ℕ) (old new : Live) (outcome : Outcome) (s : Sending) (rest : List Sending) (told told' : Option (List Called)) (went : Bool) (marks : List HistoryMark) → IsShape shape → old.operation < 2 ^ 31 → s.request < 2 ^ 32
     → Posted old.op s (correlation_for old.operation s) (node_for shape s) told told' went → StillDoes old.op new.op → new.operation ≡ old.operation
-    → Ties (At (λ r. Leaves shape r old outcome (s ∷ rest)) clock events begun) told marks → Ties (At (λ r. Leaves shape r new outcome rest) clock events begun) told' marks
+    → Ties (At (λ r. GivesAllUp shape r old outcome (s ∷ rest)) clock events begun) told marks → Ties (At (λ r. GivesAllUp shape r new outcome rest) clock events begun) told' marks
 ties_given_up shape clock events begun old new outcome s rest told told' went marks is number low p still same t = go went p
   where
     P : Record → Type 0
-    P = At (λ r. Leaves shape r old outcome (s ∷ rest)) clock events begun
+    P = At (λ r. GivesAllUp shape r old outcome (s ∷ rest)) clock events begun
 
     Q : Record → Type 0
-    Q = At (λ r. Leaves shape r new outcome rest) clock events begun
+    Q = At (λ r. GivesAllUp shape r new outcome rest) clock events begun
 
     go : (went : Bool) → Posted old.op s (correlation_for old.operation s) (node_for shape s) told told' went → Ties Q told' marks
     go true p = tie_call P Q (Sent (node_for shape s) p.bytes) told told' marks p.tells
         (λ call made r h.
-        let o = h.1 in
+        let o = h.1.0 in
         subst (λ (x : Record). Q (x ++ r)) (sym (items_sent (node_for shape s) p.bytes call made))
-        (counts_took clock events begun _ r h.0, leaves_sent shape r old new outcome s rest p.bytes o is low (removal_spelled shape r old outcome s rest o told told' true p) same (still shape o.moment o.job o.calls o.does)))
+        (counts_took clock events begun _ r h.0, gives_sent shape r old new outcome s rest p.bytes h.1 is low (removal_spelled shape r old outcome s rest o told told' true p) same (still shape o.moment o.job o.calls o.does)))
         t
     go false p = tie_call P Q (Refused (node_for shape s) p.bytes) told told' marks p.tells
         (λ call made r h.
-        let o = h.1 in
+        let o = h.1.0 in
         subst (λ (x : Record). Q (x ++ r)) (sym (items_refused (node_for shape s) p.bytes call made))
-        (counts_took clock events begun _ r h.0, leaves_refused shape r old new outcome s rest p.bytes o is low number (removal_spelled shape r old outcome s rest o told told' false p) same (still shape o.moment o.job o.calls o.does)))
+        (counts_took clock events begun _ r h.0, gives_refused shape r old new outcome s rest p.bytes h.1 is low number (removal_spelled shape r old outcome s rest o told told' false p) same (still shape o.moment o.job o.calls o.does)))
         t

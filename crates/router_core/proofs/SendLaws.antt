@@ -18,10 +18,10 @@ use Rattle.op_table.specs.Tied.{OwnsCalls}
 use Rattle.router_core.specs.Jobs.{Job, HasDrawnId, begun_as, piece_for, plan_for, target_for}
 use Rattle.router_core.specs.Stages.{simple_rules, AimsBelow, IsUnderWay}
 use Rattle.router_core.specs.Ops.{op_plan, op_stands}
-use Rattle.router_core.specs.Stands.{At, IsPending, Leaves, OwnsLive, Waits, order, wants_now}
+use Rattle.router_core.specs.Stands.{At, GivesAllUp, IsPending, IsSettled, OwnsLive, Waits, order, wants_now}
 use Rattle.router_core.specs.Ties.{Ties}
 use Rattle.router_core.proofs.DoesLaws.{does_on, does_sent, fits_as}
-use Rattle.router_core.proofs.LiveLaws.{leaves_added, live_added}
+use Rattle.router_core.proofs.LiveLaws.{live_added, settled_added}
 use Rattle.router_core.proofs.TieLaws.{tie_same}
 
 -- an operation added what it wants to nothing, or found no memory
@@ -94,6 +94,7 @@ waits_still shape r old new same kept a p =
         numbered = tt;
         counted = o.counted;
         for_piece = tt;
+        kept_all = o.kept_all;
       },
       p.1,
       none,
@@ -107,15 +108,15 @@ ties_still shape clock events begun old new result done batch told marks is none
 
 -- one that is over added what it gives up
 pub ties_leaving : (shape : Shape) (clock events begun : ℕ) (old new : Live) (outcome : Outcome) (result : Result (Unit {0}) Memory) (done : Unit {0}) (batch : List Sending) (told : Option (List Called)) (marks : List HistoryMark) → result ≡ Ok done → new.operation ≡ old.operation
-    → Adds old.op new.op result batch → Ties (At (λ r. Leaves shape r old outcome []) clock events begun) told marks → Ties (At (λ r. Leaves shape r new outcome batch) clock events begun) told marks
+    → Adds old.op new.op result batch → Ties (At (λ r. IsSettled shape r old outcome) clock events begun) told marks → Ties (At (λ r. GivesAllUp shape r new outcome batch) clock events begun) told marks
 ties_leaving shape clock events begun old new outcome result done batch told marks is same adds t =
     let a = added old.op new.op result done batch is adds in
-    tie_same (At (λ r. Leaves shape r old outcome []) clock events begun) (At (λ r. Leaves shape r new outcome batch) clock events begun) told marks t
+    tie_same (At (λ r. IsSettled shape r old outcome) clock events begun) (At (λ r. GivesAllUp shape r new outcome batch) clock events begun) told marks t
     (λ r h.
-    let o = h.1 in (
+    let o = h.1.0 in (
       h.0,
-      subst (λ (l : List Sending). Leaves shape r new outcome l) (wanted shape o.moment o.job old.op new.op batch a o.calls o.does)
-          (leaves_added shape r old new outcome o same (does_added shape o.moment o.job old.op new.op batch a)),
+      subst (λ (l : List Sending). GivesAllUp shape r new outcome l) (wanted shape o.moment o.job old.op new.op batch a o.calls o.does)
+          (settled_added shape r old new outcome h.1 same (does_added shape o.moment o.job old.op new.op batch a)),
     ))
 
 pub none_in : (batch : List Sending) → (length batch == 0) ≡ true → batch ≡ []

@@ -25,8 +25,9 @@ use Rattle.world_model.specs.Rules.{Rules, in_turn}
 use Rattle.world_model.specs.Shape.{replica_of}
 use Rattle.world_model.specs.Told.{is_frame, is_network, AllNetwork}
 use Rattle.world_model.proofs.CellLaws.{same_number}
-use Rattle.world_model.proofs.ListLaws.{earlier_tail, earlier_trans, head_has, has_append, has_at, has_later, each_at}
+use Rattle.world_model.proofs.ListLaws.{earlier_tail, earlier_trans, head_has, has_append, has_at, has_later, has_right, each_at}
 use Rattle.world_model.proofs.RouterLaws.{begun_most, drawn_at}
+use Rattle.router_core.specs.Removals.{AskedToDelete, DeletesDrawn, DeletesWhatFailed}
 use Rattle.router_core.specs.Stages.{simple_rules, IsGoing, IsIdle, IsUnderWay, IsOver}
 
 -- ---- items that change little
@@ -51,18 +52,58 @@ asked_on P item r now before a h = elim (has_append (asked_now item r) (asked r)
 none_asked : (P : Asked → Type 0) (item : Item) (r : Record) → asked_now item r ≡ [] → (a : Asked) → Has (asked_now item r) a → P a
 none_asked P item r e a h = let z : Has [] a = subst (λ (l : List Asked). Has l a) e h in absurd z
 
-going_on : (rules : Rules) (item : Item) (r : Record) → IsSteady rules item r → ((a : Asked) → Has (asked_now item r) a → operation_of a.correlation ≤ begun_in r) → IsGoing rules r → IsGoing rules (item ∷ r)
-going_on rules item r s now g = record {
+-- ---- what was given up
+
+-- what has ended became done
+ended_done : (rules : Rules) (r : Record) (operation : ℕ) → IsKept rules r → HasEnded r operation → IsDone r operation
+ended_done rules r operation kept e =
+    let a = has_at r (Marked (End operation e.0)) e.1 in
+    let d : Ends a.0 operation e.0 = each_at (Keeps rules) r (Marked (End operation e.0)) a.0 kept a.1 in
+    (e.0, has_later a.0 r _ (earlier_tail _ a.0 r a.1) (head_has _ d.at a.0 d.decided))
+
+-- what was asked stays asked
+pub asked_later : (shape : Shape) (item : Item) (r : Record) (operation : ℕ) (id : BlobId) (replica : ℕ) → AskedToDelete shape r operation id replica → AskedToDelete shape (item ∷ r) operation id replica
+asked_later shape item r operation id replica a = record { request = a.request; asked = has_right (asked_now item r) (asked r) a.request a.asked; own = a.own; node = a.node; body = a.body }
+
+-- an item by which the operation draws nothing
+pub deletes_on : (shape : Shape) (item : Item) (r : Record) (operation : ℕ) (outcome : Outcome) → ((id : BlobId) (blob : Blob) → Drawn operation Top 0 id blob ≡ item → ⊥) → DeletesDrawn shape r operation outcome → DeletesDrawn shape (item ∷ r) operation outcome
+deletes_on shape item r operation outcome apart d = λ none id blob h replica l. elim h [
+  | inl e ↦ absurd (apart id blob e)
+  | inr t ↦ asked_later shape item r operation id replica (d none id blob t replica l)
+]
+
+-- what is done draws no more
+draws_no_more : (rules : Rules) (item : Item) (r : Record) (operation : ℕ) → Keeps rules item r → IsDone r operation → (id : BlobId) (blob : Blob) → Drawn operation Top 0 id blob ≡ item → ⊥
+draws_no_more rules item r operation keeps done id blob e = let d : DrawsPart rules r operation Top 0 id blob = subst (λ (x : Item). Keeps rules x r) (sym e) keeps in d.live done
+
+-- no operation ends by this item
+abbrev EndsNone : Item → Type 0
+EndsNone item = (operation : ℕ) (outcome : Outcome) → Marked (End operation outcome) ≡ item → ⊥
+
+deletes_still : (rules : Rules) (item : Item) (r : Record) → IsKept rules r → Keeps rules item r → EndsNone item → DeletesWhatFailed rules.shape r → DeletesWhatFailed rules.shape (item ∷ r)
+deletes_still rules item r kept keeps none d = λ operation outcome h. elim h [
+  | inl e ↦ absurd (none operation outcome e)
+  | inr t ↦ deletes_on rules.shape item r operation outcome (draws_no_more rules item r operation keeps (ended_done rules r operation kept (outcome, t))) (d operation outcome t)
+]
+
+-- ---- what is true at any time
+
+going_with : (rules : Rules) (item : Item) (r : Record) → IsSteady rules item r → ((a : Asked) → Has (asked_now item r) a → operation_of a.correlation ≤ begun_in r) → DeletesWhatFailed rules.shape (item ∷ r) → IsGoing rules r → IsGoing rules (item ∷ r)
+going_with rules item r s now deletes g = record {
   kept = (g.kept, s.keeps);
   undrained = λ node. s.drains node ∙ g.undrained node;
   within = asked_on (λ a. operation_of a.correlation ≤ begun_in (item ∷ r)) item r (λ a h. more a (now a h)) (λ a h. more a (g.within a h));
+  deletes = deletes;
 }
   where
     more : (a : Asked) → operation_of a.correlation ≤ begun_in r → operation_of a.correlation ≤ begun_in (item ∷ r)
     more a l = subst (λ (n : ℕ). operation_of a.correlation ≤ n) (sym s.begins) l
 
+going_on : (rules : Rules) (item : Item) (r : Record) → IsSteady rules item r → EndsNone item → ((a : Asked) → Has (asked_now item r) a → operation_of a.correlation ≤ begun_in r) → IsGoing rules r → IsGoing rules (item ∷ r)
+going_on rules item r s none now g = going_with rules item r s now (deletes_still rules item r g.kept s.keeps none g.deletes) g
+
 going_quiet : (rules : Rules) (item : Item) (r : Record) → IsQuiet rules item r → IsGoing rules r → IsGoing rules (item ∷ r)
-going_quiet rules item r q g = going_on rules item r q.steady (none_asked (λ a. operation_of a.correlation ≤ begun_in r) item r q.asks) g
+going_quiet rules item r q g = going_on rules item r q.steady q.ends (none_asked (λ a. operation_of a.correlation ≤ begun_in r) item r q.asks) g
 
 idle_quiet : (rules : Rules) (item : Item) (r : Record) → IsQuiet rules item r → IsIdle rules r → IsIdle rules (item ∷ r)
 unfolding going_quiet
@@ -72,11 +113,11 @@ idle_quiet rules item r q i = record {
 }
 
 -- an operation goes on by an item that decides none, whose requests are its own and have numbers below `later`
-under_way_on : (rules : Rules) (item : Item) (r : Record) (operation : ℕ) (begun : Begun) (then : Record) (next later : ℕ) → IsSteady rules item r → ((other : ℕ) (outcome : Outcome) → Decided other outcome ≡ item → ⊥)
+under_way_on : (rules : Rules) (item : Item) (r : Record) (operation : ℕ) (begun : Begun) (then : Record) (next later : ℕ) → IsSteady rules item r → ((other : ℕ) (outcome : Outcome) → Decided other outcome ≡ item → ⊥) → EndsNone item
     → ((a : Asked) → Has (asked_now item r) a → (operation_of a.correlation ≡ operation) × (a.correlation < operation * 2 ^ 32 + later)) → next ≤ later
     → IsUnderWay rules r operation begun then next → IsUnderWay rules (item ∷ r) operation begun then later
-under_way_on rules item r operation begun then next later s undecided now l u = record {
-  going = going_on rules item r s (λ a h. let n = now a h in omega (arith, n.0, u.last)) u.going;
+under_way_on rules item r operation begun then next later s undecided none now l u = record {
+  going = going_on rules item r s none (λ a h. let n = now a h in omega (arith, n.0, u.last)) u.going;
   last = u.last ∙ sym s.begins;
   began = inr u.began;
   undone = λ d. elim d.1 [ inl e ↦ undecided operation d.0 e | inr t ↦ u.undone (d.0, t) ];
@@ -86,13 +127,13 @@ under_way_on rules item r operation begun then next later s undecided now l u = 
 
 under_way_quiet : (rules : Rules) (item : Item) (r : Record) (operation : ℕ) (begun : Begun) (then : Record) (next : ℕ) → IsQuiet rules item r → IsUnderWay rules r operation begun then next → IsUnderWay rules (item ∷ r) operation begun then next
 under_way_quiet rules item r operation begun then next q u =
-    under_way_on rules item r operation begun then next next q.steady q.decides (none_asked (λ a. (operation_of a.correlation ≡ operation) × (a.correlation < operation * 2 ^ 32 + next)) item r q.asks) (omega arith) u
+    under_way_on rules item r operation begun then next next q.steady q.decides q.ends (none_asked (λ a. (operation_of a.correlation ≡ operation) × (a.correlation < operation * 2 ^ 32 + next)) item r q.asks) (omega arith) u
 
 -- what is over stays so by an item that decides and ends nothing, whose requests are of operations that began
-over_on : (rules : Rules) (item : Item) (r : Record) (operation : ℕ) (outcome : Outcome) → IsSteady rules item r → ((other : ℕ) (how : Outcome) → Decided other how ≡ item → ⊥) → ((other : ℕ) (how : Outcome) → Marked (End other how) ≡ item → ⊥)
+over_on : (rules : Rules) (item : Item) (r : Record) (operation : ℕ) (outcome : Outcome) → IsSteady rules item r → ((other : ℕ) (how : Outcome) → Decided other how ≡ item → ⊥) → EndsNone item
     → ((a : Asked) → Has (asked_now item r) a → operation_of a.correlation ≤ begun_in r) → IsOver rules r operation outcome → IsOver rules (item ∷ r) operation outcome
 over_on rules item r operation outcome s undecided unended now o = record {
-  going = going_on rules item r s now o.going;
+  going = going_on rules item r s unended now o.going;
   last = o.last ∙ sym s.begins;
   decided = inr o.decided;
   unended = λ e. elim e.1 [ inl x ↦ unended operation e.0 x | inr t ↦ o.unended (e.0, t) ];
@@ -220,7 +261,7 @@ events_given event steps r = ap (λ (n : ℕ). 1 + n) (events_took steps r)
 -- before the first item no operation is under way
 pub empty_idle : (rules : Rules) → IsIdle rules []
 empty_idle rules = record {
-  going = record { kept = tt; undrained = λ node. refl; within = λ a h. absurd h };
+  going = record { kept = tt; undrained = λ node. refl; within = λ a h. absurd h; deletes = λ operation outcome h. absurd h };
   ended = λ operation outcome h. absurd h;
 }
 
@@ -239,6 +280,7 @@ begins rules r begun i room = record {
     kept = (i.going.kept, record { next = refl; within = room });
     undrained = i.going.undrained;
     within = λ a h. let w = i.going.within a h in omega (arith, w);
+    deletes = deletes_still rules (Marked (Begin (1 + begun_in r) begun)) r i.going.kept (record { next = refl; within = room }) (λ operation outcome e. cc e) i.going.deletes;
   };
   last = refl;
   began = inl refl;
@@ -354,9 +396,9 @@ sends_frame rules r operation begun then next node f aim u s =
     }
 
 -- an item that asks just this
-asks_one : (rules : Rules) (item : Item) (r : Record) (operation : ℕ) (begun : Begun) (then : Record) (next node : ℕ) (f : Frame) (aim : Aim) → IsSteady rules item r → ((other : ℕ) (outcome : Outcome) → Decided other outcome ≡ item → ⊥) → asked_now item r ≡ ask_as f node r ∷ []
+asks_one : (rules : Rules) (item : Item) (r : Record) (operation : ℕ) (begun : Begun) (then : Record) (next node : ℕ) (f : Frame) (aim : Aim) → IsSteady rules item r → ((other : ℕ) (outcome : Outcome) → Decided other outcome ≡ item → ⊥) → EndsNone item → asked_now item r ≡ ask_as f node r ∷ []
     → IsUnderWay rules r operation begun then next → Sendable rules r operation next node f aim → IsUnderWay rules (item ∷ r) operation begun then (next + 1)
-asks_one rules item r operation begun then next node f aim steady undecided one u s = under_way_on rules item r operation begun then next (next + 1) steady undecided now (omega arith) u
+asks_one rules item r operation begun then next node f aim steady undecided none one u s = under_way_on rules item r operation begun then next (next + 1) steady undecided none now (omega arith) u
   where
     now : (a : Asked) → Has (asked_now item r) a → (operation_of a.correlation ≡ operation) × (a.correlation < operation * 2 ^ 32 + (next + 1))
     now a h =
@@ -375,33 +417,30 @@ sends rules r operation begun then next node f aim bytes u s reads = asks_one ru
       begins = refl;
       drains = λ n. refl;
     })
-    (λ other outcome e. cc e) (ap (λ (o : Option Frame). asked_by o node r) reads) u s
+    (λ other outcome e. cc e) (λ other outcome e. cc e) (ap (λ (o : Option Frame). asked_by o node r) reads) u s
+
+-- a frame with a low correlation is the router's
+pub low_frame : (f : Frame) → f.correlation < 2 ^ 63 → router_frame (Some f) ≡ Some f
+low_frame f low = ap (λ (b : Bool). cond b (Some f) None) (lt-ltb f.correlation (2 ^ 63) low)
 
 -- The next request couldn't be sent.
 pub refused : (rules : Rules) (r : Record) (operation : ℕ) (begun : Begun) (then : Record) (next node : ℕ) (f : Frame) (aim : Aim) (bytes : List ℕ) → IsUnderWay rules r operation begun then next → Sendable rules r operation next node f aim → frame_in bytes ≡ Some f
     → IsUnderWay rules (Took (Step.Refused node bytes) ∷ r) operation begun then (next + 1)
 refused rules r operation begun then next node f aim bytes u s reads = asks_one rules (Took (Step.Refused node bytes)) r operation begun then next node f aim
     (record { keeps = kept; begins = refl; drains = λ n. refl })
-    (λ other outcome e. cc e) (ap (λ (o : Option Frame). asked_by o node r) own) u s
+    (λ other outcome e. cc e) (λ other outcome e. cc e) (ap (λ (o : Option Frame). asked_by o node r) own) u s
   where
     low : f.correlation < 2 ^ 63
     low = let n = number_under_way rules r operation begun then next u in omega (arith, s.number, s.room, n.1)
 
     own : router_frame (frame_in bytes) ≡ Some f
-    own = ap router_frame reads ∙ ap (λ (b : Bool). cond b (Some f) None) (lt-ltb f.correlation (2 ^ 63) low)
+    own = ap router_frame reads ∙ low_frame f low
 
     kept : RefusesSome rules.shape r node (frame_in bytes) (router_frame (frame_in bytes))
     kept = subst (λ (o : Option Frame). RefusesSome rules.shape r node o (router_frame (frame_in bytes))) (sym reads)
         (subst (λ (o : Option Frame). RefusesSome rules.shape r node (Some f) o) (sym own) (sends_frame rules r operation begun then next node f aim u s, u.going.undrained node))
 
 -- ---- what may be sent
-
--- what has ended became done
-ended_done : (rules : Rules) (r : Record) (operation : ℕ) → IsKept rules r → HasEnded r operation → IsDone r operation
-ended_done rules r operation kept e =
-    let a = has_at r (Marked (End operation e.0)) e.1 in
-    let d : Ends a.0 operation e.0 = each_at (Keeps rules) r (Marked (End operation e.0)) a.0 kept a.1 in
-    (e.0, has_later a.0 r _ (earlier_tail _ a.0 r a.1) (head_has _ d.at a.0 d.decided))
 
 -- what is under way has no end
 live : (rules : Rules) (r : Record) (operation : ℕ) (begun : Begun) (then : Record) (next : ℕ) → IsUnderWay rules r operation begun then next → HasEnded r operation → ⊥
@@ -446,7 +485,7 @@ pub decides : (rules : Rules) (r : Record) (operation : ℕ) (begun : Begun) (th
 decides rules r operation begun then next outcome u follows uncancelled = record {
   going = going_on rules (Decided operation outcome) r
       (record { keeps = record { begun = begun; began = (then, u.began); follows = follows; once = u.undone; at_cancel = λ e. absurd (uncancelled e) }; begins = refl; drains = λ node. refl })
-      (λ a h. absurd h) u.going;
+      (λ other how e. cc e) (λ a h. absurd h) u.going;
   last = u.last;
   decided = inl refl;
   unended = λ e. elim e.1 [ inl x ↦ cc x | inr t ↦ live rules r operation begun then next u (e.0, t) ];
@@ -471,9 +510,9 @@ decided_once rules (item ∷ before) operation a b s t k h g = elim h [
     again outcome w other e n h = let d : Decides rules before operation outcome = subst (λ v. Keeps rules v before) (sym e) n in d.once (other, h)
 
 -- The operation has its end. None is under way any more, since each other one that became done had its end before.
-pub ends : (rules : Rules) (r : Record) (operation : ℕ) (outcome : Outcome) → IsOver rules r operation outcome → IsIdle rules (Marked (End operation outcome) ∷ r)
-ends rules r operation outcome o = record {
-  going = going_on rules (Marked (End operation outcome)) r (record { keeps = ended; begins = refl; drains = λ node. refl }) (λ a h. absurd h) o.going;
+pub ends : (rules : Rules) (r : Record) (operation : ℕ) (outcome : Outcome) → IsOver rules r operation outcome → DeletesDrawn rules.shape r operation outcome → IsIdle rules (Marked (End operation outcome) ∷ r)
+ends rules r operation outcome o d = record {
+  going = going_with rules (Marked (End operation outcome)) r (record { keeps = ended; begins = refl; drains = λ node. refl }) (λ a h. absurd h) deleted o.going;
   ended = λ other how h. elim h [
     | inl e ↦ absurd (cc e)
     | inr t ↦ elim (o.ended other how t) [ inl same ↦ inl (the_end other how same t) | inr x ↦ inr x ]
@@ -489,6 +528,22 @@ ends rules r operation outcome o = record {
         let b = has_at r (Decided operation how) own in
         let q = decided_once rules r operation how outcome b.0 at.0 o.going.kept b.1 at.1 in
         ap (λ (n : ℕ). Marked (End n how)) same ∙ ap (λ (w : Outcome). Marked (End operation w)) q.0
+
+    apart : (other : ℕ) (id : BlobId) (blob : Blob) → Drawn other Top 0 id blob ≡ Marked (End operation outcome) → ⊥
+    apart other id blob e = cc e
+
+    same_operation : (other : ℕ) (how : Outcome) → Marked (End other how) ≡ Marked (End operation outcome) → other ≡ operation
+    same_operation other how e = cc
+
+    same_outcome : (other : ℕ) (how : Outcome) → Marked (End other how) ≡ Marked (End operation outcome) → how ≡ outcome
+    same_outcome other how e = cc
+
+    deleted : DeletesWhatFailed rules.shape (Marked (End operation outcome) ∷ r)
+    deleted = λ other how h. elim h [
+      | inl e ↦ subst (λ (n : ℕ). DeletesDrawn rules.shape (Marked (End operation outcome) ∷ r) n how) (sym (same_operation other how e))
+          (subst (λ (w : Outcome). DeletesDrawn rules.shape (Marked (End operation outcome) ∷ r) operation w) (sym (same_outcome other how e)) (deletes_on rules.shape (Marked (End operation outcome)) r operation outcome (apart operation) d))
+      | inr t ↦ deletes_on rules.shape (Marked (End operation outcome)) r other how (apart other) (o.going.deletes other how t)
+    ]
 
     not_first : (how : Outcome) (then : Record) → Earlier (Decided operation how ∷ then) r → GoesFirst then operation at.0 operation → ⊥
     not_first how then e g =
@@ -572,7 +627,7 @@ pub removes_refused : (rules : Rules) (r : Record) (operation next node : ℕ) (
 removes_refused rules r operation next node f id outcome bytes o small g reads =
     let item : Item = Took (Step.Refused node bytes) in
     let low : f.correlation < 2 ^ 63 = below f.correlation g.number g.room small in
-    let own : router_frame (frame_in bytes) ≡ Some f = ap router_frame reads ∙ ap (λ (b : Bool). cond b (Some f) None) (lt-ltb f.correlation (2 ^ 63) low) in
+    let own : router_frame (frame_in bytes) ≡ Some f = ap router_frame reads ∙ low_frame f low in
     let one : asked_now item r ≡ ask_as f node r ∷ [] = ap (λ (o : Option Frame). asked_by o node r) own in
     let now = asked_once rules item r operation next node f id outcome o g one in
     let kept : RefusesSome rules.shape r node (frame_in bytes) (router_frame (frame_in bytes)) = subst (λ (o : Option Frame). RefusesSome rules.shape r node o (router_frame (frame_in bytes))) (sym reads)

@@ -20,12 +20,13 @@ use Rattle.router_core.specs.declared.live.Live.{Live}
 use Rattle.router_core.specs.declared.router.Stage.{Stage}
 use Rattle.router_core.specs.Fits.{RouterView}
 use Rattle.router_core.specs.Stages.{simple_rules}
-use Rattle.router_core.specs.Stands.{Owns, OwnsLive, OwnsStage, Stands}
+use Rattle.router_core.specs.Removals.{DeletesDrawn}
+use Rattle.router_core.specs.Stands.{HasLeft, Owns, OwnsLive, OwnsStage, Stands}
 use Rattle.router_core.specs.Ties.{Ties}
 use Rattle.router_core.specs.Turning.{clock_after}
 use Rattle.router_core.proofs.AimLaws.{within_stays, within_took}
 use Rattle.router_core.proofs.LiveLaws.{IsTold, live_given, live_took}
-use Rattle.router_core.proofs.StageLaws.{network_idle, network_over, given_idle, given_over, begun_given, clock_given, events_given}
+use Rattle.router_core.proofs.StageLaws.{deletes_on, network_idle, network_over, given_idle, given_over, begun_given, clock_given, events_given}
 use Rattle.router_core.proofs.TieLaws.{items_gave, tie_call}
 
 -- only a moment changes the clock
@@ -63,10 +64,20 @@ idle_stays shape event steps r stage is all owns =
     subst (λ (s : Stage). OwnsStage shape (Given event ∷ (map Took steps ++ r)) s) (sym is)
     (given_idle (simple_rules shape) event (map Took steps ++ r) (network_idle (simple_rules shape) steps r all (subst (λ (s : Stage). OwnsStage shape r s) is owns)))
 
+deletes_took : (shape : Shape) (steps : List Step) (r : Record) (operation : ℕ) (outcome : Outcome) → DeletesDrawn shape r operation outcome → DeletesDrawn shape (map Took steps ++ r) operation outcome
+deletes_took shape [] r operation outcome d = d
+deletes_took shape (step ∷ steps) r operation outcome d = deletes_on shape (Took step) (map Took steps ++ r) operation outcome (λ id blob e. cc e) (deletes_took shape steps r operation outcome d)
+
+left_stays : (shape : Shape) (event : Event) (steps : List Step) (r : Record) (operation : ℕ) (outcome : Outcome) → AllNetwork steps → HasLeft shape r operation outcome → HasLeft shape (Given event ∷ (map Took steps ++ r)) operation outcome
+left_stays shape event steps r operation outcome all o = record {
+  over = given_over (simple_rules shape) event (map Took steps ++ r) operation outcome (network_over (simple_rules shape) steps r operation outcome all o.over);
+  deletes = deletes_on shape (Given event) (map Took steps ++ r) operation outcome (λ id blob e. cc e) (deletes_took shape steps r operation outcome o.deletes);
+}
+
 pub over_stays : (shape : Shape) (event : Event) (steps : List Step) (r : Record) (stage : Stage) (operation : ℕ) (outcome : Outcome) → stage ≡ Stage.Over operation outcome → AllNetwork steps → OwnsStage shape r stage → OwnsStage shape (Given event ∷ (map Took steps ++ r)) stage
 over_stays shape event steps r stage operation outcome is all owns =
     subst (λ (s : Stage). OwnsStage shape (Given event ∷ (map Took steps ++ r)) s) (sym is)
-    (given_over (simple_rules shape) event (map Took steps ++ r) operation outcome (network_over (simple_rules shape) steps r operation outcome all (subst (λ (s : Stage). OwnsStage shape r s) is owns)))
+    (left_stays shape event steps r operation outcome all (subst (λ (s : Stage). OwnsStage shape r s) is owns))
 
 -- so what a router keeps goes on where it takes what was heard
 pub owns_given : (old new : RouterView) (heard : Heard) (event : Event) (steps : List Step) (r : Record) → heard ≡ heard_of event → new.clock ≡ clock_after heard old.clock → new.events ≡ old.events + 1 → new.begun ≡ old.begun

@@ -10,6 +10,7 @@ use Rattle.world_model.specs.Outcomes.{BeganAt}
 use Rattle.world_model.specs.Record.{Part, Marked, Aimed, Decided, Record}
 use Rattle.world_model.specs.Router.{IsKept, IsDone, HasEnded, begun_in}
 use Rattle.world_model.specs.Rules.{Rules, in_turn}
+use Rattle.router_core.specs.Removals.{DeletesWhatFailed}
 
 -- one operation at a time, each of a blob that is one piece, tried once, with the partitions in turn
 abbrev pub simple_rules : Shape → Rules
@@ -20,6 +21,7 @@ pub record IsGoing (rules : Rules) (record' : Record) : Type 0 where
   pub kept : IsKept rules record'
   pub undrained : (node : ℕ) → is_drained node record' ≡ false
   pub within : (a : Asked) → Has (asked record') a → operation_of a.correlation ≤ begun_in record'
+  pub deletes : DeletesWhatFailed rules.shape record'
 
 -- no operation is under way: each that became done has its end
 pub record IsIdle (rules : Rules) (record' : Record) : Type 0 where

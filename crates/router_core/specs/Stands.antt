@@ -15,7 +15,8 @@ use Rattle.router_core.specs.declared.ending.Ended.{Ended}
 use Rattle.router_core.specs.declared.live.Live.{Live}
 use Rattle.router_core.specs.declared.router.Stage.{Stage}
 use Rattle.router_core.specs.Fits.{DoesJob, RouterView}
-use Rattle.router_core.specs.Jobs.{Job, EachIs, GivesUp, GoOnFrom, GoesOn, HasDrawnId, IsForPiece, begun_as, piece_for, plan_for, target_for}
+use Rattle.router_core.specs.Jobs.{Job, DrewOnly, EachIs, GaveUpNothing, GivesUp, GoOnFrom, GoesOn, HasDrawnId, IsForPiece, begun_as, piece_for, plan_for, target_for}
+use Rattle.router_core.specs.Removals.{DeletesDrawn, DeletesSoon}
 use Rattle.router_core.specs.Stages.{simple_rules, AimsBelow, AimsWithin, AsksBelow, IsIdle, IsUnderWay, IsOver}
 
 -- how many requests it wants at most of each replica, in the order of asking: every replica that there may be
@@ -41,6 +42,7 @@ pub record OwnsLive (shape : Shape) (record' : Record) (live : Live) (rest : Lis
   pub numbered : GoOnFrom from rest
   pub counted : from + length rest ≡ next_request calls
   pub for_piece : EachIs (IsForPiece shape (clock_of then) job) rest
+  pub kept_all : GaveUpNothing calls
 
 -- what it has come to by its calls, and what it wants then
 abbrev pub outcome_now : {shape : Shape} {record' : Record} {live : Live} {rest : List Sending} → OwnsLive shape record' live rest → Option Outcome
@@ -57,7 +59,7 @@ IsPending shape record' live = (owns : OwnsLive shape record' live []) × (outco
 abbrev pub Waits : Shape → Record → Live → Type 0
 Waits shape record' live = (owns : OwnsLive shape record' live []) × (outcome_now owns ≡ None) × (wants_now owns ≡ [])
 
--- It is done so, and may still give up what it has drawn. `rest` are requests for that which have not gone out yet.
+-- It is done so. `rest` are requests to delete what it has drawn which have not gone out yet.
 pub record Leaves (shape : Shape) (record' : Record) (live : Live) (outcome : Outcome) (rest : List Sending) : Type 0 where
   pub job : Job
   pub moment : ℕ
@@ -68,20 +70,35 @@ pub record Leaves (shape : Shape) (record' : Record) (live : Live) (outcome : Ou
   pub asks : AsksBelow record' live.operation next
   pub aims : AimsBelow record' live.operation next
   pub drawn : HasDrawnId record' live.operation moment job
+  pub drew_only : DrewOnly record' live.operation job
   pub does : DoesJob shape moment job live.op calls
   pub how : Outcome
   pub came : (plan_for shape moment job).outcome calls ≡ Some how
   pub same : (id : List ℕ) → outcome ≡ Outcome.Put id → how ≡ Outcome.Put id
+  pub stored : (id : List ℕ) → how ≡ Outcome.Put id → outcome ≡ Outcome.Put id
   pub some : 0 < next
   pub ahead : next ≤ from
   pub numbered : GoOnFrom from rest
   pub counted : from + length rest ≡ next_request calls
   pub giving : EachIs (GivesUp shape job how) rest
 
+-- It is done so, and has asked for no delete yet.
+abbrev pub IsSettled : Shape → Record → Live → Outcome → Type 0
+IsSettled shape record' live outcome = (leaves : Leaves shape record' live outcome []) × GaveUpNothing leaves.calls
+
+-- It is done so. Where that isn't the ok of a put, each replica was asked to delete what it drew, or is still to be asked by `rest`.
+abbrev pub GivesAllUp : Shape → Record → Live → Outcome → List Sending → Type 0
+GivesAllUp shape record' live outcome rest = Leaves shape record' live outcome rest × DeletesSoon shape record' live.operation outcome rest
+
+-- the operation is over, and no replica is left to be asked to delete what it drew
+pub record HasLeft (shape : Shape) (record' : Record) (operation : ℕ) (outcome : Outcome) : Type 0 where
+  pub over : IsOver (simple_rules shape) record' operation outcome
+  pub deletes : DeletesDrawn shape record' operation outcome
+
 abbrev pub OwnsStage : Shape → Record → Stage → Type 0
 OwnsStage shape record' Stage.Idle = IsIdle (simple_rules shape) record'
 OwnsStage shape record' (Stage.UnderWay live) = OwnsLive shape record' live []
-OwnsStage shape record' (Stage.Over operation outcome) = IsOver (simple_rules shape) record' operation outcome
+OwnsStage shape record' (Stage.Over operation outcome) = HasLeft shape record' operation outcome
 
 -- the clock, the number of events, and how many operations began, as a router keeps them
 pub record Counts (clock events begun : ℕ) (record' : Record) : Type 0 where
@@ -126,10 +143,15 @@ abbrev pub after_asking : Shape → Record → Live → (more : Bool) → Type 0
 after_asking shape record' live true = OwnsLive shape record' live []
 after_asking shape record' live false = Waits shape record' live
 
--- after what was wanted was sent: it waits, or it is over so
+-- after what was wanted was sent: it waits, or it is done so
 abbrev pub after_settling : Shape → Record → Live → Option Outcome → Type 0
 after_settling shape record' live None = Waits shape record' live
-after_settling shape record' live (Some outcome) = Leaves shape record' live outcome []
+after_settling shape record' live (Some outcome) = IsSettled shape record' live outcome
+
+-- after that, where it is done, each replica was asked to delete what it gives up
+abbrev pub after_leaving : Shape → Record → Live → Option Outcome → Type 0
+after_leaving shape record' live None = Waits shape record' live
+after_leaving shape record' live (Some outcome) = GivesAllUp shape record' live outcome []
 
 -- what the router keeps of a stage at rest
 abbrev pub RestsStage : Shape → Record → Stage → Type 0

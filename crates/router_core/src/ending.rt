@@ -11,7 +11,7 @@ ghost use Rattle.router_core.specs.declared.live.Live.{Live};
 ghost use Rattle.router_core.specs.declared.router.Stage.TheVariants as variant;
 ghost use Rattle.router_core.specs.Ending.{end_of};
 ghost use Rattle.router_core.specs.Fits.{FitsLive, FitsStage, IsAnswer};
-ghost use Rattle.router_core.specs.Stands.{At, Owns, OwnsLive, OwnsStage, RestsStage, Stands, after_settling, end_marks, is_idle, is_under_way};
+ghost use Rattle.router_core.specs.Stands.{At, Owns, OwnsLive, OwnsStage, RestsStage, Stands, after_leaving, end_marks, is_idle, is_under_way};
 ghost use Rattle.router_core.specs.Ties.{Ties};
 
 use crate::live::Live;
@@ -146,7 +146,7 @@ fn settle_live<F: Fabric>(
     requires open { F.opened fabric.old ≡ Some shape.now }
     requires shape { IsShape shape.now }
     requires fits { FitsLive shape.now live.old }
-    ensures ties { IfOk result (λ over. (begun : ℕ) (marks : List HistoryMark) → Ties (At (λ r. OwnsLive shape.now r live.old []) clock events begun) (F.told fabric.old) marks → Ties (At (λ r. after_settling shape.now r live.new over) clock events begun) (F.told fabric.new) marks) }
+    ensures ties { IfOk result (λ over. (begun : ℕ) (marks : List HistoryMark) → Ties (At (λ r. OwnsLive shape.now r live.old []) clock events begun) (F.told fabric.old) marks → Ties (At (λ r. after_leaving shape.now r live.new over) clock events begun) (F.told fabric.new) marks) }
     ensures answer { IfOk result (λ over. IfSome over (IsAnswer shape.now)) }
     ensures fits { FitsLive shape.now live.new }
     ensures operation { live.new.operation ≡ live.old.operation }

@@ -9,7 +9,7 @@ ghost use Rattle.quorum_op.specs.declared.outcome.Outcome.{Outcome};
 ghost use Rattle.router_core.specs.Fits.{DoesJob, FitsLive, IsAnswer};
 ghost use Rattle.router_core.specs.Jobs.{Job};
 ghost use Rattle.router_core.specs.Posting.{HasNoted, Posted};
-ghost use Rattle.router_core.specs.Stands.{At, IsPending, Leaves, OwnsLive, after_asking, after_settling, order};
+ghost use Rattle.router_core.specs.Stands.{At, GivesAllUp, IsPending, IsSettled, OwnsLive, after_asking, after_settling, order};
 ghost use Rattle.router_core.specs.Ties.{Ties};
 ghost use Rattle.router_core.specs.Requests.{entry_for};
 ghost use Rattle.world_model.specs.declared.history.HistoryMark.{HistoryMark};
@@ -260,7 +260,7 @@ impl Live {
         requires open { F.opened fabric.old ≡ Some shape.now }
         requires shape { IsShape shape.now }
         requires fits { FitsLive shape.now self.old }
-        ensures ties { OnOk result ((outcome : Outcome) (clock events begun : ℕ) (marks : List HistoryMark) → Ties (At (λ r. Leaves shape.now r self.old outcome []) clock events begun) (F.told fabric.old) marks → Ties (At (λ r. Leaves shape.now r self.new outcome []) clock events begun) (F.told fabric.new) marks) }
+        ensures ties { OnOk result ((outcome : Outcome) (clock events begun : ℕ) (marks : List HistoryMark) → Ties (At (λ r. IsSettled shape.now r self.old outcome) clock events begun) (F.told fabric.old) marks → Ties (At (λ r. GivesAllUp shape.now r self.new outcome []) clock events begun) (F.told fabric.new) marks) }
         ensures fits { FitsLive shape.now self.new }
         ensures operation { self.new.operation ≡ self.old.operation }
         ensures opened { F.opened fabric.new ≡ F.opened fabric.old }
@@ -286,7 +286,7 @@ impl Live {
         requires open { F.opened fabric.old ≡ Some shape.now }
         requires shape { IsShape shape.now }
         requires fits { FitsLive shape.now self.old }
-        ensures ties { OnOk result ((outcome : Outcome) (clock events begun : ℕ) (marks : List HistoryMark) → Ties (At (λ r. Leaves shape.now r self.old outcome batch.now) clock events begun) (F.told fabric.old) marks → Ties (At (λ r. Leaves shape.now r self.new outcome []) clock events begun) (F.told fabric.new) marks) }
+        ensures ties { OnOk result ((outcome : Outcome) (clock events begun : ℕ) (marks : List HistoryMark) → Ties (At (λ r. GivesAllUp shape.now r self.old outcome batch.now) clock events begun) (F.told fabric.old) marks → Ties (At (λ r. GivesAllUp shape.now r self.new outcome []) clock events begun) (F.told fabric.new) marks) }
         ensures fits { FitsLive shape.now self.new }
         ensures operation { self.new.operation ≡ self.old.operation }
         ensures opened { F.opened fabric.new ≡ F.opened fabric.old }
@@ -312,7 +312,7 @@ impl Live {
         requires open { F.opened fabric.old ≡ Some shape.now }
         requires shape { IsShape shape.now }
         requires fits { FitsLive shape.now self.old }
-        ensures ties { OnOk result ((outcome : Outcome) (clock events begun : ℕ) (marks : List HistoryMark) (rest : List Sending) → Ties (At (λ r. Leaves shape.now r self.old outcome (sending.now ∷ rest)) clock events begun) (F.told fabric.old) marks → Ties (At (λ r. Leaves shape.now r self.new outcome rest) clock events begun) (F.told fabric.new) marks) }
+        ensures ties { OnOk result ((outcome : Outcome) (clock events begun : ℕ) (marks : List HistoryMark) (rest : List Sending) → Ties (At (λ r. GivesAllUp shape.now r self.old outcome (sending.now ∷ rest)) clock events begun) (F.told fabric.old) marks → Ties (At (λ r. GivesAllUp shape.now r self.new outcome rest) clock events begun) (F.told fabric.new) marks) }
         ensures fits { FitsLive shape.now self.new }
         ensures operation { self.new.operation ≡ self.old.operation }
         ensures opened { F.opened fabric.new ≡ F.opened fabric.old }

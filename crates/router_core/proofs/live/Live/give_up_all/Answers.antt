@@ -1,7 +1,7 @@
 use Rattle.std.proofs.Common.{◌≡◌, ◌+◌, ◌∷◌, List, drop, sym, ap, ◌∙◌, subst, arith}
 use Rattle.std.proofs.lemmas.List.{drop_all, drop_more}
 use Rattle.operation.specs.declared.sending.Sending.{Sending}
-use Rattle.router_core.specs.Stands.{At, Leaves}
+use Rattle.router_core.specs.Stands.{At, GivesAllUp}
 use Rattle.router_core.specs.Ties.{Ties}
 use Rattle.router_core.proofs.live.Live.give_up_all.Goals as goal
 
@@ -21,7 +21,7 @@ loop-sending-preserved g c =
       ready = e.opened ∙ i.ready;
       ties = λ outcome clock events begun marks t.
           e.ties outcome clock events begun marks (drop (at + 1) c.args.batch.now)
-          (subst (λ (l : List Sending). Ties (At (λ r. Leaves c.args.shape.now r c.loop-sending.self outcome l) clock events begun) (g.F.Fabric.told c.loop-sending.fabric) marks) left (i.ties outcome clock events begun marks t));
+          (subst (λ (l : List Sending). Ties (At (λ r. GivesAllUp c.args.shape.now r c.loop-sending.self outcome l) clock events begun) (g.F.Fabric.told c.loop-sending.fabric) marks) left (i.ties outcome clock events begun marks t));
       later = let a = i.later in let b = e.later in omega (arith, a, b);
       run = λ cluster place opening h. e.run cluster place opening (i.run cluster place opening h);
       goes = g.met.F.Fabric.goes_on c.args.fabric.now c.loop-sending.fabric c.give_up.new.fabric i.goes e.goes;
@@ -30,5 +30,5 @@ loop-sending-preserved g c =
 pub returns-clause-ties : goal.returns-clause-ties
 returns-clause-ties g c = λ outcome clock events begun marks t.
     let i = c.loop-sending.invariant in
-    subst (λ (l : List Sending). Ties (At (λ r. Leaves c.args.shape.now r c.loop-sending.self outcome l) clock events begun) (g.F.Fabric.told c.loop-sending.fabric) marks)
+    subst (λ (l : List Sending). Ties (At (λ r. GivesAllUp c.args.shape.now r c.loop-sending.self outcome l) clock events begun) (g.F.Fabric.told c.loop-sending.fabric) marks)
     (drop_all c.loop-sending.sending-index c.args.batch.now c.loop-sending-test.false) (i.ties outcome clock events begun marks t)

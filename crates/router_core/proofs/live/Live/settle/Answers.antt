@@ -1,7 +1,7 @@
 use Rattle.std.proofs.Common.{[], ◌∷◌, Bool, Option, IfSome, IsNone, refl, ◌∙◌, subst, arith}
 use Rattle.quorum_op.specs.declared.outcome.Outcome.{Outcome}
 use Rattle.world_model.specs.Record.{Decided, Record}
-use Rattle.router_core.specs.Stands.{At, IsPending, Leaves, OwnsLive, after_asking}
+use Rattle.router_core.specs.Stands.{At, IsPending, IsSettled, OwnsLive, after_asking}
 use Rattle.router_core.specs.Ties.{Ties}
 use Rattle.router_core.proofs.EndLaws.{ties_over}
 use Rattle.router_core.proofs.SendLaws.{ties_pending}
@@ -11,7 +11,7 @@ pub returns-in-Some-clause-ties : goal.returns-in-Some-clause-ties
 returns-in-Some-clause-ties g c = λ begun marks t.
     let shape = c.args.shape.now in
     let live = c.settling.self in
-    let over = subst (λ (o : Option Outcome). IfSome o (λ outcome. (r : Record) → OwnsLive shape r live [] → Leaves shape (Decided live.operation outcome ∷ r) c.poll.new.self outcome [])) c.in-Some.is c.in_ok-outcome.ensures.over in
+    let over = subst (λ (o : Option Outcome). IfSome o (λ outcome. (r : Record) → OwnsLive shape r live [] → IsSettled shape (Decided live.operation outcome ∷ r) c.poll.new.self outcome)) c.in-Some.is c.in_ok-outcome.ensures.over in
     ties_over shape c.args.clock c.args.events begun live c.poll.new.self c.in-Some.outcome (g.F.Fabric.told c.settling.fabric) marks over (c.settling.invariant.ties begun marks t)
 
 pub returns-in_err-more-clause-falls : goal.returns-in_err-more-clause-falls
