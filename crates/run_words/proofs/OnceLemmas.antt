@@ -22,11 +22,7 @@ unchosen : (test : Bool) (given : Given) (more : Option Given) → cond test (So
 unchosen true given more e = absurd cc
 unchosen false given more e = (refl, e)
 
--- no option of the name in front of others, and none there
-no_front : (first more : Option Given) → option_or first more ≡ None → first ≡ None
-no_front None more e = refl
-no_front (Some given) more e = absurd cc
-
+-- no option of the name behind others, where there is none in all
 no_back : (first more : Option Given) → option_or first more ≡ None → more ≡ None
 no_back None more e = e
 no_back (Some given) more e = absurd cc
