@@ -2,6 +2,7 @@
 
 ghost use Rattle.std.specs.Prelude.{◌≡◌, ◌⊎◌};
 ghost use Rattle.gate_slots.specs.declared.fault.SlotFault.TheVariants.{Failed as SlotFailed, TooLong, Memory as SlotMemory};
+ghost use Rattle.part_log.specs.declared.fault.ReadFault.TheVariants.{Failed as ReadFailed, Memory as ReadMemory};
 ghost use Rattle.part_log.specs.declared.fault.LogFault.TheVariants.{Failed as LogFailed, Memory as LogMemory};
 ghost use Rattle.part_log.specs.declared.fault.OpenFault.TheVariants.{Failed as OpenFailed, Memory as OpenMemory};
 
@@ -10,6 +11,30 @@ use gate_slots::SlotFault;
 use log_manifest::LogSettings;
 use outside::Failed;
 use thiserror::Error;
+
+/// Why bytes weren't read.
+#[derive(Clone, Copy, Debug, PartialEq, Eq)]
+pub(crate) enum ReadFault {
+    /// The disk failed.
+    Failed,
+    Memory,
+}
+
+impl From<Failed> for ReadFault {
+    ghost from_gives = { λ _ fault. fault ≡ ReadFailed };
+
+    fn from(_: Failed) -> Self {
+        ReadFault::Failed
+    }
+}
+
+impl From<Memory> for ReadFault {
+    ghost from_gives = { λ _ fault. fault ≡ ReadMemory };
+
+    fn from(_: Memory) -> Self {
+        ReadFault::Memory
+    }
+}
 
 /// Why a call of a log wasn't carried out.
 #[derive(Clone, Copy, Debug, PartialEq, Eq, Error)]
@@ -73,6 +98,17 @@ impl From<Memory> for OpenFault {
 
     fn from(_: Memory) -> Self {
         OpenFault::Memory
+    }
+}
+
+impl From<ReadFault> for OpenFault {
+    ghost from_gives = { λ fault given. ((fault ≡ ReadFailed) × (given ≡ OpenFailed)) ⊎ ((fault ≡ ReadMemory) × (given ≡ OpenMemory)) };
+
+    fn from(fault: ReadFault) -> Self {
+        match fault {
+            ReadFault::Failed => OpenFault::Failed,
+            ReadFault::Memory => OpenFault::Memory,
+        }
     }
 }
 

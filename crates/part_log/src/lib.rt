@@ -3,6 +3,7 @@
 
 mod appending;
 mod blanking;
+mod bytes;
 mod fault;
 mod laws;
 mod log;

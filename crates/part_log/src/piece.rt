@@ -1,12 +1,12 @@
 //! A piece of the disk that is at hand while records are read one after the other.
 
-ghost use Rattle.std.specs.Prelude.{◌≡◌, ◌⊎◌, ◌+◌, ◌-◌, ◌<◌, ◌≤◌, ◌↔◌, ◌++◌, [], ℕ, List, length, min, IsTrue, OnOk, OnErr, IfOk, IsErrOf};
+ghost use Rattle.std.specs.Prelude.{◌≡◌, ◌+◌, ◌-◌, ◌<◌, ◌≤◌, ◌↔◌, ◌++◌, [], ℕ, List, length, min, IsTrue, OnOk, IfOk, IsErrOf};
 ghost use Rattle.outside.specs.Causes.{Rose};
 ghost use Rattle.disk_core.specs.Content.{ChangesBy, Same, range};
 ghost use Rattle.part_log.specs.Scan.{BeginsAs, IsHeld};
 
-use crate::fault::OpenFault;
-use blob_id::Memory;
+use crate::bytes::read_bytes;
+use crate::fault::ReadFault;
 use disk_core::Disk;
 use msg_format::{Head, LONGEST_FRONT, OPEN_GATE, decode_head};
 use std::alloc::Global;
@@ -32,35 +32,6 @@ pub(crate) enum Beginning {
     Broken,
 }
 
-/// Bytes of the disk.
-pub(crate) fn read_bytes<D: Disk>(
-    alloc: Global,
-    disk: &mut D,
-    at: u64,
-    count: usize,
-) -> Result<Vec<u8>, OpenFault>
-    requires { at + count ≤ D.size disk.old }
-    ensures during { D.tells → ChangesBy Same (D.content disk.old) (D.content disk.new) }
-    ensures seen { D.tells → (D.content disk.new).seen ≡ (D.content disk.old).seen }
-    ensures bytes { IfOk result (λ bytes. D.tells → bytes.items ≡ range at count (D.content disk.old).seen) }
-    ensures length { IfOk result (λ bytes. length bytes.items ≡ count) }
-    ensures failed { IsErrOf result OpenFault.Failed → Rose (D.faults disk.old) (D.faults disk.new) }
-    ensures other { OnErr result (IsErrOf result OpenFault.Failed ⊎ IsErrOf result OpenFault.Memory) }
-    ensures size { D.size disk.new ≡ D.size disk.old }
-    ensures later { D.faults disk.old ≤ D.faults disk.new }
-{
-    let mut bytes = zeros(alloc, count)?;
-    disk.read(at, &mut bytes)?;
-    Ok(bytes)
-}
-
-/// So many zeros.
-pub(crate) fn zeros(alloc: Global, count: usize) -> Result<Vec<u8>, Memory>
-    ensures { IfOk result (λ bytes. length bytes.items ≡ count) }
-{
-    Ok(vec![in alloc; 0u8; count]?)
-}
-
 /// Sees to it that so many bytes from a place on are at hand. `left` bytes may be read from there on.
 fn hold<D: Disk>(
     alloc: Global,
@@ -69,7 +40,7 @@ fn hold<D: Disk>(
     place: u64,
     need: usize,
     left: usize,
-) -> Result<(), OpenFault>
+) -> Result<(), ReadFault>
     requires inside { place + left ≤ D.size disk.old }
     requires within { need ≤ left }
     requires least { need ≤ 1133 }
@@ -78,15 +49,14 @@ fn hold<D: Disk>(
     ensures seen { D.tells → (D.content disk.new).seen ≡ (D.content disk.old).seen }
     ensures held { D.tells → IsHeld piece.new.from piece.new.bytes.items (D.content disk.old).seen }
     ensures there { OnOk result ((piece.new.from ≤ place) × (place + need ≤ piece.new.from + length piece.new.bytes.items)) }
-    ensures failed { IsErrOf result OpenFault.Failed → Rose (D.faults disk.old) (D.faults disk.new) }
-    ensures other { OnErr result (IsErrOf result OpenFault.Failed ⊎ IsErrOf result OpenFault.Memory) }
+    ensures failed { IsErrOf result ReadFault.Failed → Rose (D.faults disk.old) (D.faults disk.new) }
     ensures size { D.size disk.new ≡ D.size disk.old }
     ensures later { D.faults disk.old ≤ D.faults disk.new }
 {
     if piece.holds(place, need) {
         return Ok(());
     }
-    let bytes = read_bytes(alloc, disk, place, left.min(PIECE))?;
+    let bytes = read_bytes(alloc, disk, place, &[], left.min(PIECE))?;
     piece.from = place;
     piece.bytes = bytes;
     Ok(())
@@ -150,7 +120,7 @@ pub(crate) fn beginning_at<D: Disk>(
     piece: &mut Piece,
     place: u64,
     left: usize,
-) -> Result<Beginning, OpenFault>
+) -> Result<Beginning, ReadFault>
     requires inside { place + left ≤ D.size disk.old }
     requires two { 2 ≤ left }
     requires held { D.tells → IsHeld piece.old.from piece.old.bytes.items (D.content disk.old).seen }
@@ -160,8 +130,7 @@ pub(crate) fn beginning_at<D: Disk>(
     ensures begins { IfOk result (λ beginning. D.tells → BeginsAs (range place left (D.content disk.old).seen) beginning) }
     // Of a disk that doesn't tell its bytes this much is known.
     ensures possible { IfOk result (λ beginning. (bytes : List ℕ) × (length bytes ≡ left) × BeginsAs bytes beginning) }
-    ensures failed { IsErrOf result OpenFault.Failed → Rose (D.faults disk.old) (D.faults disk.new) }
-    ensures other { OnErr result (IsErrOf result OpenFault.Failed ⊎ IsErrOf result OpenFault.Memory) }
+    ensures failed { IsErrOf result ReadFault.Failed → Rose (D.faults disk.old) (D.faults disk.new) }
     ensures size { D.size disk.new ≡ D.size disk.old }
     ensures later { D.faults disk.old ≤ D.faults disk.new }
 {

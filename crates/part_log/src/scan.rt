@@ -1,6 +1,6 @@
 //! Records that are read one after the other, and what was found of them.
 
-ghost use Rattle.std.specs.Prelude.{◌≡◌, ◌+◌, ◌++◌, ◌∷◌, [], ◌-◌, ◌^◌, ◌≤◌, ℕ, List, length, None, OnOk, OnErr, IfOk, IfSome, IsErrOf};
+ghost use Rattle.std.specs.Prelude.{◌≡◌, ◌+◌, ◌++◌, ◌∷◌, [], ◌-◌, ◌^◌, ◌≤◌, ℕ, List, None, OnOk, IfOk, IfSome, IsErrOf};
 ghost use Rattle.outside.specs.Causes.{Rose};
 ghost use Rattle.disk_core.specs.Content.{ChangesBy, Same, range};
 ghost use Rattle.msg_format.specs.declared.record.Record.{Record};

@@ -4,7 +4,7 @@ use Rattle.log_manifest.specs.Manifests.{IsManifest, manifest_text}
 use Rattle.part_log.specs.declared.segment.SegmentInfo.{SegmentInfo}
 use Rattle.part_log.specs.Records.{Placed, records_of}
 use Rattle.part_log.specs.Images.{KeepsLog}
-use Rattle.part_log.specs.Segments.{place_of, is_among, free_from, lives_of, ChangesIn}
+use Rattle.part_log.specs.Segments.{place_of, is_among, free_from, lives_of}
 use Rattle.part_log.specs.Log.{LogState, LogTable, IsTable, IsLog, is_worn, is_packed, least_free, manifest_of, with_segment, new_info}
 use Rattle.part_log.proofs.Staying.{visible_there, visible_elsewhere}
 use Rattle.part_log.proofs.Room.{next_manifest, rolling_from, short_text, rolled_is_good, nothing_kept}

@@ -16,8 +16,8 @@ invariant_of-self g c =
       λ t up. let standing = c.self.invariant.2 t up in (standing.0, log_same table old new standing.0 (c.read_placed.ensures.during t) (c.read_placed.ensures.seen t) standing.1),
     )
 
-pub invariant_of-self-in-Err : goal.invariant_of-self-in-Err
-invariant_of-self-in-Err g c =
+pub invariant_of-self-in-Err-Memory : goal.invariant_of-self-in-Err-Memory
+invariant_of-self-in-Err-Memory g c =
     let s = c.self.inside in
     let table : LogTable = record { settings = s.settings; segments = s.segments.items; next_generation = s.next_generation; end = s.end; slots = s.slots } in
     let good : IsTable table = c.self.invariant.0 in
@@ -55,8 +55,8 @@ returns-in-Err-Failed-clause-kept g c =
     let new = g.D.Disk.content c.read_placed.new.disk in
     rw (← c.self.view_is) (λ t placed log. log_same table old new placed (c.read_placed.ensures.during t) (c.read_placed.ensures.seen t) log)
 
-pub returns-in-Err-clause-kept : goal.returns-in-Err-clause-kept
-returns-in-Err-clause-kept g c =
+pub returns-in-Err-Memory-clause-kept : goal.returns-in-Err-Memory-clause-kept
+returns-in-Err-Memory-clause-kept g c =
     let s = c.self.inside in
     let table : LogTable = record { settings = s.settings; segments = s.segments.items; next_generation = s.next_generation; end = s.end; slots = s.slots } in
     let good : IsTable table = c.self.invariant.0 in

@@ -2,7 +2,7 @@ use Rattle.std.proofs.Common.{◌≡◌, ℕ, ◌+◌, ◌-◌, List, length, ta
 use Rattle.std.proofs.lemmas.List.{take_at}
 use Rattle.disk_core.specs.Content.{range}
 use Rattle.part_log.proofs.Wholes.{both_parts}
-use Rattle.part_log.proofs.reading_at.read_on.Goals as goal
+use Rattle.part_log.proofs.bytes.read_bytes.Goals as goal
 
 pub returns-clause-bytes : goal.returns-clause-bytes
 returns-clause-bytes g c = λ t.
