@@ -1,5 +1,5 @@
 -- A record more, and its spot in the index.
-use Rattle.std.proofs.Common.{◌≡◌, inl, inr, ⊎_elim, ℕ, ◌+◌, List, [], ◌∷◌, ◌++◌, Bool, true, false, if◌then◌else◌, Option, Some, None, Result, Ok, Err, OnOk, OnErr, refl, sym, ◌∙◌, ap, subst}
+use Rattle.std.proofs.Common.{◌≡◌, inl, inr, ⊎_elim, ℕ, ◌+◌, List, [], ◌∷◌, ◌++◌, None, Result, Ok, Err, OnOk, OnErr, sym, ◌∙◌, ap, subst}
 use Rattle.disk_core.specs.Content.{Content, ChangesBy}
 use Rattle.disk_core.proofs.Changes.{widen}
 use Rattle.cell_model.specs.declared.cell.Cell.{Cell}
@@ -13,7 +13,7 @@ use Rattle.part_log.specs.Scan.{found_of}
 use Rattle.part_log.specs.Log.{LogTable, IsTable, IsLog, AllVisible}
 use Rattle.part_log.proofs.Records.{records_of-append}
 use Rattle.replica_core.specs.declared.index.Spot.{Spot}
-use Rattle.replica_core.specs.Maps.{is_same, cell_of, cell_for, cell_from, AreTidy, MayCome, JoinsCell, with_joined}
+use Rattle.replica_core.specs.Maps.{cell_of, cell_for, cell_from, AreTidy, MayCome, JoinsCell, with_joined}
 use Rattle.replica_core.specs.Index.{spot_in, spot_for, newest, cells_of, IsIndexed}
 use Rattle.replica_core.proofs.Maps.{cell_from-one, tidy-one}
 use Rattle.replica_core.proofs.Spots.{newest-one, found_of-one, index_cells}
@@ -32,19 +32,17 @@ module _ (table : LogTable) (old : Content) (entries : List (List ℕ × Spot)) 
 
     -- while it is put
     pub joins : (new : Content) (target : ℕ) → ChangesBy (PutsLast table.settings target (records_of indexed.placed) table.end entry) old new
-        → ChangesBy (JoinsCell table.settings (cell_in (cells_of old.seen entries)) (id_of entry) (cell_of entry)) old new
+        → ChangesBy (JoinsCell table.settings (cell_in (cells_of old.seen entries)) table.end (id_of entry) (cell_of entry)) old new
     joins new target puts =
-        widen (PutsLast table.settings target (records_of indexed.placed) table.end entry) (JoinsCell table.settings (cell_in (cells_of old.seen entries)) (id_of entry) (cell_of entry)) old new puts (λ d c image by. ⊎_elim
+        widen (PutsLast table.settings target (records_of indexed.placed) table.end entry) (JoinsCell table.settings (cell_in (cells_of old.seen entries)) table.end (id_of entry) (cell_of entry)) old new puts (λ d c image by. ⊎_elim
         (λ (before : StandsFor table.settings c (records_of indexed.placed) table.end). inl (record {
           records = records_of indexed.placed;
-          end = table.end;
           stands = before;
           tidy = indexed.tidy;
           give = its_cells table old entries good indexed;
         }))
         (λ (after : StandsFor table.settings c (records_of indexed.placed ++ entry ∷ []) (table.end + 1)). inr (record {
           records = records_of indexed.placed ++ entry ∷ [];
-          end = table.end + 1;
           stands = after;
           tidy = still_tidy;
           give = λ other. sym (joined_cells other);

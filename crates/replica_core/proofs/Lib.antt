@@ -2,6 +2,7 @@ pub mod Ids
 pub mod Maps
 pub mod Spots
 pub mod Standing
+pub mod Putting
 pub mod Adding
 pub mod Replies
 pub mod Noting

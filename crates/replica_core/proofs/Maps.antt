@@ -7,7 +7,7 @@ use Rattle.cell_model.specs.Cells.{join}
 use Rattle.msg_format.specs.declared.record.Record.{Record}
 use Rattle.msg_format.specs.declared.record.Record.TheVariants.{Put, Delete}
 use Rattle.msg_format.specs.Records.{id_of, is_gone}
-use Rattle.replica_core.specs.Maps.{is_same, cell_of, cell_for, cell_from, AllowsBehind, AreTidy, MayCome}
+use Rattle.replica_core.specs.Maps.{cell_of, cell_for, cell_from, AllowsBehind, AreTidy, MayCome}
 use Rattle.replica_core.proofs.Ids.{one_same, cell_for-here}
 
 pub join_absent : (c : Cell) → join c Absent ≡ c

@@ -1,5 +1,5 @@
 -- What asks do, from what reads and appends do.
-use Rattle.std.proofs.Common.{◌≡◌, ◌≢◌, ◌⊎◌, ◌↔◌, IsTrue, inl, inr, ⊎_elim, ℕ, ◌≤◌, List, Bool, true, false, cond, Result, Ok, Err, OnOk, OnErr, IsErrOf, refl, sym, ◌∙◌, ap, subst, arith}
+use Rattle.std.proofs.Common.{◌≡◌, ◌≢◌, ◌⊎◌, ◌↔◌, IsTrue, inl, inr, ⊎_elim, ℕ, ◌≤◌, List, [], ◌∷◌, Bool, true, false, cond, Result, Ok, Err, OnOk, OnErr, IsErrOf, refl, sym, ◌∙◌, ap, subst, arith}
 use Rattle.std.proofs.lemmas.Bool.{iff_false}
 use Rattle.outside.specs.Causes.{Rose}
 use Rattle.disk_core.specs.Content.{Content, ChangesBy, Same}
@@ -12,13 +12,16 @@ use Rattle.cell_model.specs.declared.ask.Reply.{Reply}
 use Rattle.cell_model.specs.declared.ask.Reply.TheVariants as replied
 use Rattle.cell_model.specs.Cells.{join, cell_in}
 use Rattle.cell_model.specs.Asks.{Told, IsStep, CanAnswer, AnswersInRange, Answers, IsRefusal, id_of, brought, landed, is_refusal}
+use Rattle.msg_format.specs.declared.record.Record.{Record}
 use Rattle.part_log.specs.declared.fault.LogFault.{LogFault}
 use Rattle.part_log.specs.declared.fault.LogFault.TheVariants as faulty
 use Rattle.part_log.specs.Log.{LogTable, is_full}
-use Rattle.replica_core.specs.Maps.{cell_for, StandsForCells, JoinsCell, with_joined}
-use Rattle.replica_core.specs.State.{ReplicaState, told_of, Changes, needed, refusal_of, reply_for, GoesDown, IsAsked}
+use Rattle.replica_core.specs.Maps.{AllStandForCells, StandsForCells, JoinsCell, with_joined}
+use Rattle.replica_core.specs.State.{ReplicaState, told_of, Changes, needed, due_record, put_record, Writes, refusal_of, reply_for, put_by, GoesDown, IsAsked}
 use Rattle.replica_core.proofs.Ids.{one_same, apart_same, cell_for-here, cell_for-apart}
 use Rattle.replica_core.proofs.Maps.{join_absent}
+use Rattle.replica_core.proofs.Standing.{one_stands}
+use Rattle.replica_core.proofs.Putting.{none_due, cond_none, writes_as, writes_none}
 
 fault_or : {T : Type 0} → LogFault → Result T LogFault → LogFault
 fault_or other (Ok value) = other
@@ -98,6 +101,7 @@ done_for _ = replied.Done
 record IsDone (ask : Ask) (done : Reply) : Type 0 where
   kind : CanAnswer ask done
   range : AnswersInRange done
+  carried : is_refusal done ≡ false
   lands : landed ask done ≡ brought ask
   calm : (old new : Bool) → new ≡ old → GoesDown done old new
   not_down : done ≢ replied.Down
@@ -106,11 +110,11 @@ record IsDone (ask : Ask) (done : Reply) : Type 0 where
   not_memory : done ≢ replied.Memory
 
 is_done : (ask : Ask) → IsWrite ask → IsDone ask (done_for ask)
-is_done (Put id blob) write = record { kind = tt; range = tt; lands = refl; calm = λ old new same. same; not_down = λ is. absurd (cc is); not_fault = λ is. absurd (cc is); not_full = λ is. absurd (cc is); not_memory = λ is. absurd (cc is) }
+is_done (Put id blob) write = record { kind = tt; range = tt; carried = refl; lands = refl; calm = λ old new same. same; not_down = λ is. absurd (cc is); not_fault = λ is. absurd (cc is); not_full = λ is. absurd (cc is); not_memory = λ is. absurd (cc is) }
 is_done (Get id) write = absurd write
 is_done (Peek id) write = absurd write
-is_done (Delete id at) write = record { kind = tt; range = tt; lands = refl; calm = λ old new same. same; not_down = λ is. absurd (cc is); not_fault = λ is. absurd (cc is); not_full = λ is. absurd (cc is); not_memory = λ is. absurd (cc is) }
-is_done (Merge id cell) write = record { kind = tt; range = tt; lands = refl; calm = λ old new same. same; not_down = λ is. absurd (cc is); not_fault = λ is. absurd (cc is); not_full = λ is. absurd (cc is); not_memory = λ is. absurd (cc is) }
+is_done (Delete id at) write = record { kind = tt; range = tt; carried = refl; lands = refl; calm = λ old new same. same; not_down = λ is. absurd (cc is); not_fault = λ is. absurd (cc is); not_full = λ is. absurd (cc is); not_memory = λ is. absurd (cc is) }
+is_done (Merge id cell) write = record { kind = tt; range = tt; carried = refl; lands = refl; calm = λ old new same. same; not_down = λ is. absurd (cc is); not_fault = λ is. absurd (cc is); not_full = λ is. absurd (cc is); not_memory = λ is. absurd (cc is) }
 
 -- and which refusals they may be answered
 record MayRefuse (ask : Ask) (reply : Reply) : Type 0 where
@@ -167,6 +171,7 @@ module _ {D : Type 0} (tells : Type 0) (content : D → Content) (size faults : 
     range = tt;
     step = λ t. refused_step (told_of old) (told_of old) ask replied.Down (λ id. refl) (may_down ask) refl;
     during = λ t up. absurd (cc (sym down ∙ up));
+    writes = λ t up. absurd (cc (sym down ∙ up));
     down = refl;
     refused = ((λ is. down), (λ is. refl));
     unchanged = λ is. refl;
@@ -187,7 +192,7 @@ module _ {D : Type 0} (tells : Type 0) (content : D → Content) (size faults : 
     pub range : AnswersInRange reply
     pub step : tells → IsStep (told_of old) ask reply (told_of new)
     pub same : tells → ChangesBy Same (content old.log.disk) (content new.log.disk)
-    pub stands : tells → (c : List ℕ) → (content old.log.disk).images c → StandsForCells old.log.table.settings c (cell_in old.cells)
+    pub stands : tells → AllStandForCells old.log.table.settings (content old.log.disk) (cell_in old.cells) old.log.table.end
     pub leaves : tells → join (cell_in old.cells (id_of ask)) (brought ask) ≡ cell_in old.cells (id_of ask)
     pub down : GoesDown reply old.down new.down
     pub not_down : reply ≢ replied.Down
@@ -202,8 +207,15 @@ module _ {D : Type 0} (tells : Type 0) (content : D → Content) (size faults : 
     kind = quiet.kind;
     range = quiet.range;
     step = quiet.step;
-    during = λ t up. widen Same (JoinsCell old.log.table.settings (cell_in old.cells) (id_of ask) (brought ask)) (content old.log.disk) (content new.log.disk) (quiet.same t)
-        (λ d c image same. inl (subst (λ (l : List ℕ). StandsForCells old.log.table.settings l (cell_in old.cells)) (sym same) (quiet.stands t d image)));
+    during = λ t up. widen Same (JoinsCell old.log.table.settings (cell_in old.cells) old.log.table.end (id_of ask) (brought ask)) (content old.log.disk) (content new.log.disk) (quiet.same t)
+        (λ d c image same. inl (subst (λ (l : List ℕ). StandsForCells old.log.table.settings l (cell_in old.cells) old.log.table.end) (sym same) (one_stands old.log.table.settings (content old.log.disk) (cell_in old.cells) old.log.table.end (quiet.stands t) d image)));
+    writes = λ t up.
+        let lsn : ℕ = old.log.table.end in
+        let cell : Cell = cell_in old.cells (id_of ask) in
+        let due : List Record = due_record lsn cell ask in
+        let stands = quiet.stands t in
+        writes_as content old.log new.log due [] due (put_record lsn cell ask reply) (reply ≢ replied.Fault) (reply ≢ replied.Fault) refl (sym (cond_none (is_refusal reply) due (none_due lsn cell ask (quiet.leaves t)))) (λ s. s)
+        (writes_none content old.log new.log due (reply ≢ replied.Fault) stands.records stands.stand (quiet.same t) quiet.table);
     down = quiet.down;
     refused = ((λ is. absurd (quiet.not_down is)), (λ down. absurd (cc (sym down ∙ quiet.up))));
     unchanged = λ is. absurd (quiet.not_down is);
@@ -221,13 +233,13 @@ module _ {D : Type 0} (tells : Type 0) (content : D → Content) (size faults : 
   pub record IsRead (old new : ReplicaState D) : Type 0 where
     pub up : old.down ≡ false
     pub same : tells → ChangesBy Same (content old.log.disk) (content new.log.disk)
-    pub stands : tells → (c : List ℕ) → (content old.log.disk).images c → StandsForCells old.log.table.settings c (cell_in old.cells)
+    pub stands : tells → AllStandForCells old.log.table.settings (content old.log.disk) (cell_in old.cells) old.log.table.end
     pub cells : tells → new.cells ≡ old.cells
     pub table : new.log.table ≡ old.log.table
     pub disk_size : size new.log.disk ≡ size old.log.disk
     pub later : faults old.log.disk ≤ faults new.log.disk
 
-  pub nothing_read : (old : ReplicaState D) → old.down ≡ false → (tells → (c : List ℕ) → (content old.log.disk).images c → StandsForCells old.log.table.settings c (cell_in old.cells)) → IsRead old old
+  pub nothing_read : (old : ReplicaState D) → old.down ≡ false → (tells → AllStandForCells old.log.table.settings (content old.log.disk) (cell_in old.cells) old.log.table.end) → IsRead old old
   nothing_read old up stands = record { up = up; same = λ t. no_change Same (content old.log.disk) (λ c image. refl); stands = stands; cells = λ t. refl; table = refl; disk_size = refl; later = omega arith }
 
   same_cells : (old new : ReplicaState D) → IsRead old new → tells → (id : List ℕ) → cell_in new.cells id ≡ cell_in old.cells id
@@ -305,7 +317,10 @@ module _ {D : Type 0} (tells : Type 0) (content : D → Content) (size faults : 
     pub was_up : old.down ≡ false
     pub answers : tells → Answers (cell_in old.cells (id_of ask)) ask (done_for ask)
     pub changes : tells → Changes (cell_in old.cells (id_of ask)) ask
-    pub during : tells → ChangesBy (JoinsCell old.log.table.settings (cell_in old.cells) (id_of ask) (brought ask)) (content old.log.disk) (content new.log.disk)
+    pub during : tells → ChangesBy (JoinsCell old.log.table.settings (cell_in old.cells) old.log.table.end (id_of ask) (brought ask)) (content old.log.disk) (content new.log.disk)
+    pub entry : Record
+    pub due : tells → due_record old.log.table.end (cell_in old.cells (id_of ask)) ask ≡ entry ∷ []
+    pub writes : tells → Writes content old.log (entry ∷ []) (put_by result entry) (IsErrOf result faulty.Failed → ⊥) new.log
     pub added : OnOk result (tells → (other : List ℕ) → cell_in new.cells other ≡ with_joined (cell_in old.cells) (id_of ask) (brought ask) other)
     pub kept : OnErr result (tells → (other : List ℕ) → cell_in new.cells other ≡ cell_in old.cells other)
     pub full : IsErrOf result faulty.Full → is_full old.log.table (needed ask) ≡ true
@@ -322,6 +337,11 @@ module _ {D : Type 0} (tells : Type 0) (content : D → Content) (size faults : 
   same_state : {T : Type 0} (old : ReplicaState D) (ask : Ask) (fault : LogFault) (new : ReplicaState D) → IsPut {T = T} old ask (Err fault) new → (IsErrOf {T = T} (Err fault) faulty.Failed → ⊥) → new ≡ old
   same_state old ask fault new put not_failed = ⊎_elim (λ failed. absurd (not_failed failed)) (λ same. same) put.unchanged
 
+  put_writes : {T : Type 0} (old : ReplicaState D) (ask : Ask) (result : Result T LogFault) (new : ReplicaState D) (put : IsPut old ask result new) (reply : Reply) → put_record old.log.table.end (cell_in old.cells (id_of ask)) ask reply ≡ put_by result put.entry
+      → (reply ≢ replied.Fault → IsErrOf result faulty.Failed → ⊥) → tells → Writes content old.log (due_record old.log.table.end (cell_in old.cells (id_of ask)) ask) (put_record old.log.table.end (cell_in old.cells (id_of ask)) ask reply) (reply ≢ replied.Fault) new.log
+  put_writes old ask result new put reply put_is settles t = writes_as content old.log new.log (put.entry ∷ []) (put_by result put.entry) (due_record old.log.table.end (cell_in old.cells (id_of ask)) ask) (put_record old.log.table.end (cell_in old.cells (id_of ask)) ask reply)
+      (IsErrOf result faulty.Failed → ⊥) (reply ≢ replied.Fault) (sym (put.due t)) (sym put_is) settles (put.writes t)
+
   pub asked_put : {T : Type 0} (old : ReplicaState D) (ask : Ask) (result : Result T LogFault) (new : ReplicaState D) → IsPut old ask result new → IsAsked tells content size faults old ask (reply_for result (done_for ask)) new
   asked_put old ask (Ok value) new put =
       let done = is_done ask put.write in
@@ -330,6 +350,7 @@ module _ {D : Type 0} (tells : Type 0) (content : D → Content) (size faults : 
         range = done.range;
         step = λ t. joined_step (told_of old) (told_of new) ask (done_for ask) (put.added t) (put.answers t) done.lands;
         during = λ t up. put.during t;
+        writes = λ t up. put_writes old ask (Ok value) new put (done_for ask) (ap (λ (b : Bool). cond b [] (due_record old.log.table.end (cell_in old.cells (id_of ask)) ask)) done.carried ∙ put.due t) (λ s failed. absurd (cc failed)) t;
         down = done.calm old.down new.down (put.up ∙ sym put.was_up);
         refused = ((λ is. absurd (done.not_down is)), (λ down. absurd (cc (sym down ∙ put.was_up))));
         unchanged = λ is. absurd (done.not_down is);
@@ -350,6 +371,7 @@ module _ {D : Type 0} (tells : Type 0) (content : D → Content) (size faults : 
         range = tt;
         step = λ t. refused_step (told_of old) (told_of new) ask replied.Full (put.kept t) may.refusal refl;
         during = λ t up. put.during t;
+        writes = λ t up. put_writes old ask (Err faulty.Full) new put replied.Full refl (λ s failed. absurd (cc failed)) t;
         down = ap (λ (x : ReplicaState D). x.down) same;
         refused = ((λ is. absurd (cc is)), (λ down. absurd (cc (sym down ∙ put.was_up))));
         unchanged = λ is. absurd (cc is);
@@ -369,6 +391,7 @@ module _ {D : Type 0} (tells : Type 0) (content : D → Content) (size faults : 
         range = tt;
         step = λ t. refused_step (told_of old) (told_of new) ask replied.Fault (put.kept t) may.refusal refl;
         during = λ t up. put.during t;
+        writes = λ t up. put_writes old ask (Err faulty.Failed) new put replied.Fault refl (λ s failed. s refl) t;
         down = (put.was_up, (put.failed refl).1);
         refused = ((λ is. absurd (cc is)), (λ down. absurd (cc (sym down ∙ put.was_up))));
         unchanged = λ is. absurd (cc is);
@@ -390,6 +413,7 @@ module _ {D : Type 0} (tells : Type 0) (content : D → Content) (size faults : 
         range = tt;
         step = λ t. refused_step (told_of old) (told_of new) ask replied.Memory (put.kept t) may.refusal refl;
         during = λ t up. put.during t;
+        writes = λ t up. put_writes old ask (Err faulty.Memory) new put replied.Memory refl (λ s failed. absurd (cc failed)) t;
         down = ap (λ (x : ReplicaState D). x.down) same;
         refused = ((λ is. absurd (cc is)), (λ down. absurd (cc (sym down ∙ put.was_up))));
         unchanged = λ is. absurd (cc is);

@@ -1,5 +1,5 @@
 -- The index of a log, and the cells that its spots stand for.
-use Rattle.std.proofs.Common.{◌≡◌, ◌≢◌, ◌⊎◌, inl, inr, ⊎_elim, ℕ, List, [], ◌∷◌, ◌++◌, length, take, drop, Bool, true, false, if◌then◌else◌, Option, Some, None, refl, sym, ◌∙◌, ap, subst, take-append-drop}
+use Rattle.std.proofs.Common.{◌≡◌, ◌≢◌, ◌⊎◌, inl, inr, ⊎_elim, ℕ, List, [], ◌∷◌, ◌++◌, length, drop, Bool, true, false, if◌then◌else◌, Option, Some, None, refl, sym, ◌∙◌, ap, subst, take-append-drop}
 use Rattle.std.specs.List.{AllByRecursion}
 use Rattle.std.specs.Ordering.{nat_cmp}
 use Rattle.std.specs.Cmp.Lexicographic.{slice_cmp}
@@ -21,7 +21,7 @@ use Rattle.part_log.specs.Records.{Placed, IsPlaced, records_of}
 use Rattle.part_log.specs.Scan.{found_of}
 use Rattle.part_log.specs.Log.{IsVisible, AllVisible}
 use Rattle.replica_core.specs.declared.index.Spot.{Spot}
-use Rattle.replica_core.specs.Maps.{is_same, cell_of, cell_for, cell_from, AllowsBehind, AreTidy}
+use Rattle.replica_core.specs.Maps.{is_same, cell_of, cell_from, AllowsBehind, AreTidy}
 use Rattle.replica_core.specs.Index.{spot_in, spot_of, spot_for, newest_or, newest, blob_cell, spot_cell, cells_of}
 use Rattle.replica_core.proofs.Ids.{same_one, cell_for-here, cell_for-apart}
 use Rattle.replica_core.proofs.Maps.{join_absent, join_assoc}

@@ -1,17 +1,33 @@
 -- What a log with its index stands for.
-use Rattle.std.proofs.Common.{◌≡◌, inl, ℕ, List, sym, subst}
+use Rattle.std.proofs.Common.{◌≡◌, inl, ℕ, List, sym, ◌∙◌, ap, subst}
 use Rattle.disk_core.specs.Content.{Content}
+use Rattle.cell_model.specs.declared.cell.Cell.{Cell}
 use Rattle.cell_model.specs.Cells.{cell_in}
+use Rattle.log_manifest.specs.declared.manifest.LogSettings.{LogSettings}
 use Rattle.msg_format.specs.declared.record.Record.{Record}
-use Rattle.part_log.specs.Images.{HasLog, StandsFor}
+use Rattle.part_log.specs.Images.{HasLog}
 use Rattle.part_log.specs.Records.{Placed, records_of}
 use Rattle.part_log.specs.Log.{LogTable, IsTable, IsLog, AllVisible}
 use Rattle.part_log.proofs.Fronts.{its_records, shown_stands}
+use Rattle.part_log.proofs.Meaning.{one_log}
 use Rattle.part_log.proofs.Visible.{visible}
 use Rattle.replica_core.specs.declared.index.Spot.{Spot}
-use Rattle.replica_core.specs.Maps.{cell_from, StandsForCells}
+use Rattle.replica_core.specs.Maps.{cell_from, AllStandFor, AllStandForCells, StandsForCells}
 use Rattle.replica_core.specs.Index.{cells_of, IsIndexed, IsReady}
 use Rattle.replica_core.proofs.Spots.{index_cells}
+
+-- whatever a crash leaves of a log, it has the records
+pub log_stands : (table : LogTable) (content : Content) (placed : List Placed) → IsTable table → IsLog table content placed → AllStandFor table.settings content (records_of placed) table.end
+log_stands table content placed good log c image = inl (subst (λ (l : List Record). HasLog table.settings c l table.end) (sym (its_records table log.parts placed log.sized log.all)) (shown_stands table log.floor log.parts c good log.sized log.rises log.ends (log.shown c image)))
+
+-- bytes stand for one map, and one end lsn
+pub same_cells : (settings : LogSettings) (bytes : List ℕ) (f h : List ℕ → Cell) (m n : ℕ) → StandsForCells settings bytes f m → StandsForCells settings bytes h n → (m ≡ n) × ((id : List ℕ) → f id ≡ h id)
+same_cells settings bytes f h m n one two =
+    let same = one_log settings bytes one.records two.records m n one.stands two.stands in
+    (same.end, (λ id. one.give id ∙ ap (λ (l : List Record). cell_from l id) same.records ∙ sym (two.give id)))
+
+pub one_stands : (settings : LogSettings) (content : Content) (cells : List ℕ → Cell) (end : ℕ) → AllStandForCells settings content cells end → (c : List ℕ) → content.images c → StandsForCells settings c cells end
+one_stands settings content cells end all c image = record { records = all.records; stands = all.stand c image; tidy = all.tidy; give = all.give }
 
 module _ (table : LogTable) (content : Content) (entries : List (List ℕ × Spot)) (good : IsTable table) (indexed : IsIndexed table content entries) where
   -- each record can be read
@@ -22,15 +38,12 @@ module _ (table : LogTable) (content : Content) (entries : List (List ℕ × Spo
   pub its_cells : (id : List ℕ) → cell_in (cells_of content.seen entries) id ≡ cell_from (records_of indexed.placed) id
   its_cells = index_cells table.settings content.seen entries indexed.placed indexed.index its_visible indexed.tidy
 
-  -- whatever a crash leaves, it has the records
-  pub stands_for : (c : List ℕ) → content.images c → StandsFor table.settings c (records_of indexed.placed) table.end
-  stands_for c image =
-      let log = indexed.log in
-      inl (subst (λ (l : List Record). HasLog table.settings c l table.end) (sym (its_records table log.parts indexed.placed log.sized log.all)) (shown_stands table log.floor log.parts c good log.sized log.rises log.ends (log.shown c image)))
+  -- whatever a crash leaves stands for the records, and for the cells
+  pub all_stand : AllStandForCells table.settings content (cell_in (cells_of content.seen entries)) table.end
+  all_stand = record { records = records_of indexed.placed; stand = log_stands table content indexed.placed good indexed.log; tidy = indexed.tidy; give = its_cells }
 
-  -- and stands for the cells
-  pub stands_cells : (c : List ℕ) → content.images c → StandsForCells table.settings c (cell_in (cells_of content.seen entries))
-  stands_cells c image = record { records = records_of indexed.placed; end = table.end; stands = stands_for c image; tidy = indexed.tidy; give = its_cells }
+  pub stands_cells : (c : List ℕ) → content.images c → StandsForCells table.settings c (cell_in (cells_of content.seen entries)) table.end
+  stands_cells c image = one_stands table.settings content (cell_in (cells_of content.seen entries)) table.end all_stand c image
 
 -- a read leaves it ready
 pub read_ready : (tells : Type 0) (table after : LogTable) (old new : Content) (entries : List (List ℕ × Spot)) → after ≡ table → (tells → (placed : List Placed) → IsLog table old placed → IsLog after new placed)

@@ -1,12 +1,13 @@
 -- The map of a log: the cell of each id is the join of its records.
-use Rattle.std.specs.Prelude.{◌≡◌, ◌⊎◌, ℕ, List, [], ◌∷◌, Bool, true, false, if◌then◌else◌}
+use Rattle.std.specs.Prelude.{◌≡◌, ◌⊎◌, ℕ, ◌+◌, List, [], ◌∷◌, Bool, true, false, if◌then◌else◌}
 use Rattle.std.specs.List.{AllByRecursion}
 use Rattle.std.specs.Ordering.{nat_cmp}
 use Rattle.std.specs.Cmp.Lexicographic.{slice_cmp}
 use Rattle.std.specs.BTreeMap.{is_at}
+use Rattle.disk_core.specs.Content.{Content}
 use Rattle.cell_model.specs.declared.cell.Cell.{Cell}
 use Rattle.cell_model.specs.declared.cell.Cell.TheVariants.{Absent, Held, Gone}
-use Rattle.cell_model.specs.Cells.{join, cell_in}
+use Rattle.cell_model.specs.Cells.{join}
 use Rattle.log_manifest.specs.declared.manifest.LogSettings.{LogSettings}
 use Rattle.msg_format.specs.declared.record.Record.{Record}
 use Rattle.msg_format.specs.declared.record.Record.TheVariants.{Put, Delete}
@@ -50,11 +51,21 @@ MayCome Gone entry = ⊥
 abbrev pub GiveCells : List Record → (List ℕ → Cell) → Type 0
 GiveCells records cells = (id : List ℕ) → cells id ≡ cell_from records id
 
--- These bytes stand for tidy records that give each id this cell.
-pub record StandsForCells (settings : LogSettings) (bytes : List ℕ) (cells : List ℕ → Cell) : Type 0 where
+-- These bytes stand for tidy records that give each id this cell, and for this end lsn.
+pub record StandsForCells (settings : LogSettings) (bytes : List ℕ) (cells : List ℕ → Cell) (end : ℕ) : Type 0 where
   pub records : List Record
-  pub end : ℕ
   pub stands : StandsFor settings bytes records end
+  pub tidy : AreTidy records
+  pub give : GiveCells records cells
+
+-- Whatever a crash leaves of this content, it stands for these records and this end lsn.
+abbrev pub AllStandFor : LogSettings → Content → List Record → ℕ → Type 0
+AllStandFor settings content records end = (c : List ℕ) → content.images c → StandsFor settings c records end
+
+-- And the records are tidy, and give each id this cell.
+pub record AllStandForCells (settings : LogSettings) (content : Content) (cells : List ℕ → Cell) (end : ℕ) : Type 0 where
+  pub records : List Record
+  pub stand : AllStandFor settings content records end
   pub tidy : AreTidy records
   pub give : GiveCells records cells
 
@@ -63,8 +74,8 @@ abbrev pub with_joined : (List ℕ → Cell) → List ℕ → Cell → List ℕ 
 with_joined cells id cell other = join (cells other) (cell_for other id cell)
 
 -- At each moment of a call that may join a cell to that of an id: bytes that stand for the cells from before, or for those with it.
-abbrev pub JoinsCell : LogSettings → (List ℕ → Cell) → List ℕ → Cell → List ℕ → List ℕ → Type 0
-JoinsCell settings cells id cell old new = StandsForCells settings new cells ⊎ StandsForCells settings new (with_joined cells id cell)
+abbrev pub JoinsCell : LogSettings → (List ℕ → Cell) → ℕ → List ℕ → Cell → List ℕ → List ℕ → Type 0
+JoinsCell settings cells end id cell old new = StandsForCells settings new cells end ⊎ StandsForCells settings new (with_joined cells id cell) (end + 1)
 
 -- whatever a disk stands for, its records are tidy
 abbrev pub HasTidy : LogSettings → List ℕ → Type 0

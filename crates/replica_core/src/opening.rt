@@ -5,12 +5,12 @@ ghost use Rattle.outside.specs.Causes.{Rose};
 ghost use Rattle.disk_core.specs.Content.{ChangesBy, Only};
 ghost use Rattle.gate_slots.specs.Cell.{cell_at};
 ghost use Rattle.log_manifest.specs.declared.manifest.LogSettings.{LogSettings};
+ghost use Rattle.cell_model.specs.declared.cell.Cell.{Cell};
 ghost use Rattle.cell_model.specs.Cells.{cell_in};
-ghost use Rattle.msg_format.specs.declared.record.Record.{Record};
 ghost use Rattle.part_log.specs.Segments.{ChangesIn};
-ghost use Rattle.part_log.specs.Images.{IsDamaged, NamesOther, OpensLog, StandsFor};
+ghost use Rattle.part_log.specs.Images.{IsDamaged, NamesOther, OpensLog};
 ghost use Rattle.part_log.specs.Log.{AreInRange, disk_size};
-ghost use Rattle.replica_core.specs.Maps.{GiveCells, HasTidy};
+ghost use Rattle.replica_core.specs.Maps.{HasTidy, StandsForCells};
 
 use crate::index::index_of;
 use crate::replica::Replica;
@@ -25,8 +25,10 @@ impl<D: Disk> Replica<D> {
         requires size { D.size disk ≡ disk_size settings }
         requires tidy { D.tells → HasTidy settings (D.content disk).seen }
 
-        // The cells and the end lsn are those of the records that the disk stood for.
-        ensures cells { IfOk result (λ replica. D.tells → (records : List Record) × StandsFor settings (D.content disk).seen records replica.log.table.end × GiveCells records (cell_in replica.cells)) }
+        // The cells and the end lsn are those that the disk stood for: of a replica that was closed, its own.
+        ensures cells { IfOk result (λ replica. D.tells → StandsForCells settings (D.content disk).seen (cell_in replica.cells) replica.log.table.end) }
+        ensures again { IfOk result (λ replica. D.tells → (cells : List ℕ → Cell) (end : ℕ) → StandsForCells settings (D.content disk).seen cells end
+            → (replica.log.table.end ≡ end) × ((id : List ℕ) → cell_in replica.cells id ≡ cells id)) }
         ensures up { IfOk result (λ replica. replica.down ≡ false) }
         ensures settings { IfOk result (λ replica. replica.log.table.settings ≡ settings) }
 

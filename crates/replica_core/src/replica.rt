@@ -39,10 +39,9 @@ impl<D: Disk> Replica<D> {
     pub fn end_lsn(&self) -> u64
         ensures end { result ≡ self.now.log.table.end }
         ensures most { result ≤ 2 ^ 63 }
-        // Whatever a crash leaves of the disk of a replica that isn't down, it stands for the replica's cells.
-        ensures stands { D.tells → self.now.down ≡ false → (c : List ℕ) → (D.content self.now.log.disk).images c → StandsForCells self.now.log.table.settings c (cell_in self.now.cells) }
+        // Whatever a crash leaves of the disk of a replica that isn't down, it stands for the replica's cells and end lsn.
+        ensures stands { D.tells → self.now.down ≡ false → (c : List ℕ) → (D.content self.now.log.disk).images c → StandsForCells self.now.log.table.settings c (cell_in self.now.cells) self.now.log.table.end }
     {
-        let _down = self.down;
         self.log.end_lsn()
     }
 
@@ -53,9 +52,11 @@ impl<D: Disk> Replica<D> {
         self.down
     }
 
-    /// Hands the disk back.
+    /// Hands the disk back. Where the replica isn't down, the disk stands for its cells and end lsn, which an opening
+    /// gives again.
     pub fn close(self) -> D
-        ensures { result ≡ self.log.disk }
+        ensures disk { result ≡ self.log.disk }
+        ensures stands { D.tells → self.down ≡ false → (c : List ℕ) → (D.content result).images c → StandsForCells self.log.table.settings c (cell_in self.cells) self.log.table.end }
     {
         let Replica {
             alloc: _,

@@ -1,6 +1,6 @@
 //! Putting records last, and noting where they stand.
 
-ghost use Rattle.std.specs.Prelude.{◌≡◌, ◌≢◌, ◌⊎◌, ◌≤◌, ◌++◌, ◌∷◌, [], ℕ, List, true, false, OnOk, OnErr, IfOk, IsErrOf};
+ghost use Rattle.std.specs.Prelude.{◌≡◌, ◌≢◌, ◌⊎◌, ◌≤◌, ◌+◌, ◌++◌, ◌∷◌, [], ℕ, List, true, false, OnOk, OnErr, IfOk, IsErrOf};
 ghost use Rattle.outside.specs.Causes.{Rose};
 ghost use Rattle.disk_core.specs.Content.{ChangesBy};
 ghost use Rattle.blob_id.specs.Blob.{IsBlob};
@@ -13,6 +13,7 @@ ghost use Rattle.part_log.specs.Images.{PutsLast};
 ghost use Rattle.part_log.specs.Log.{AllVisible, IsLog, IsTable, is_full, target_of};
 ghost use Rattle.replica_core.specs.Index.{spot_in, spot_for};
 ghost use Rattle.replica_core.specs.Maps.{JoinsCell, MayCome, cell_of, with_joined};
+ghost use Rattle.replica_core.specs.State.{Writes, put_by};
 
 use crate::index::{Spot, reserve, restore, settle};
 use crate::replica::Replica;
@@ -51,6 +52,8 @@ fn put_noted<D: Disk>(
     ensures rests { OnErr result (index.new.entries ≡ index.old.entries) }
     ensures visible { D.tells → (placed : List Placed) → IsLog log.old.table (D.content log.old.disk) placed → AllVisible log.old.table.settings (D.content log.new.disk).seen placed }
     ensures good { OnOk result (IsTable log.new.table) }
+    ensures grows { OnOk result (log.new.table.end ≡ log.old.table.end + 1) }
+    ensures same_end { OnErr result (log.new.table.end ≡ log.old.table.end) }
 
     ensures full { IsErrOf result LogFault.Full → is_full log.old.table (record_size entry.now) ≡ true }
     ensures full_only { is_full log.old.table (record_size entry.now) ≡ true → IsErrOf result LogFault.Full ⊎ IsErrOf result LogFault.Memory }
@@ -86,7 +89,8 @@ impl<D: Disk> Replica<D> {
         requires id { id ≡ id_of entry.now }
         requires may { D.tells → MayCome (cell_in self.old.cells (id_of entry.now)) entry.now }
 
-        ensures during { D.tells → ChangesBy (JoinsCell self.old.log.table.settings (cell_in self.old.cells) (id_of entry.now) (cell_of entry.now)) (D.content self.old.log.disk) (D.content self.new.log.disk) }
+        ensures during { D.tells → ChangesBy (JoinsCell self.old.log.table.settings (cell_in self.old.cells) self.old.log.table.end (id_of entry.now) (cell_of entry.now)) (D.content self.old.log.disk) (D.content self.new.log.disk) }
+        ensures writes { D.tells → Writes D.content self.old.log (entry.now ∷ []) (put_by result entry.now) (IsErrOf result LogFault.Failed → ⊥) self.new.log }
         ensures added { OnOk result (D.tells → (other : List ℕ) → cell_in self.new.cells other ≡ with_joined (cell_in self.old.cells) (id_of entry.now) (cell_of entry.now) other) }
         ensures kept { OnErr result (D.tells → (other : List ℕ) → cell_in self.new.cells other ≡ cell_in self.old.cells other) }
         ensures full { IsErrOf result LogFault.Full → is_full self.old.log.table (record_size entry.now) ≡ true }
@@ -115,7 +119,8 @@ impl<D: Disk> Replica<D> {
         requires fields { IsBlob blob }
         requires absent { D.tells → cell_in self.old.cells id ≡ Absent }
 
-        ensures during { D.tells → ChangesBy (JoinsCell self.old.log.table.settings (cell_in self.old.cells) id (Held blob)) (D.content self.old.log.disk) (D.content self.new.log.disk) }
+        ensures during { D.tells → ChangesBy (JoinsCell self.old.log.table.settings (cell_in self.old.cells) self.old.log.table.end id (Held blob)) (D.content self.old.log.disk) (D.content self.new.log.disk) }
+        ensures writes { D.tells → Writes D.content self.old.log (written.Put self.old.log.table.end id blob ∷ []) (put_by result (written.Put self.old.log.table.end id blob)) (IsErrOf result LogFault.Failed → ⊥) self.new.log }
         ensures added { OnOk result (D.tells → (other : List ℕ) → cell_in self.new.cells other ≡ with_joined (cell_in self.old.cells) id (Held blob) other) }
         ensures kept { OnErr result (D.tells → (other : List ℕ) → cell_in self.new.cells other ≡ cell_in self.old.cells other) }
         ensures full { IsErrOf result LogFault.Full → is_full self.old.log.table (record_size (written.Put self.old.log.table.end id blob)) ≡ true }
@@ -140,7 +145,8 @@ impl<D: Disk> Replica<D> {
         requires up { self.old.down ≡ false }
         requires there { D.tells → cell_in self.old.cells id ≢ Gone }
 
-        ensures during { D.tells → ChangesBy (JoinsCell self.old.log.table.settings (cell_in self.old.cells) id Gone) (D.content self.old.log.disk) (D.content self.new.log.disk) }
+        ensures during { D.tells → ChangesBy (JoinsCell self.old.log.table.settings (cell_in self.old.cells) self.old.log.table.end id Gone) (D.content self.old.log.disk) (D.content self.new.log.disk) }
+        ensures writes { D.tells → Writes D.content self.old.log (written.Delete self.old.log.table.end id created ∷ []) (put_by result (written.Delete self.old.log.table.end id created)) (IsErrOf result LogFault.Failed → ⊥) self.new.log }
         ensures added { OnOk result (D.tells → (other : List ℕ) → cell_in self.new.cells other ≡ with_joined (cell_in self.old.cells) id Gone other) }
         ensures kept { OnErr result (D.tells → (other : List ℕ) → cell_in self.new.cells other ≡ cell_in self.old.cells other) }
         ensures full { IsErrOf result LogFault.Full → is_full self.old.log.table (record_size (written.Delete self.old.log.table.end id created)) ≡ true }

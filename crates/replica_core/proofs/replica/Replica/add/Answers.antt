@@ -1,14 +1,16 @@
-use Rattle.std.proofs.Common.{◌≡◌, ◌⊎◌, inl, inr, ⊎_elim, ℕ, List, false, sym, ◌∙◌, ap, subst}
-use Rattle.disk_core.specs.Content.{ChangesBy}
+use Rattle.std.proofs.Common.{◌≡◌, ⊎_elim, ℕ, List, false, Err, refl, sym, ◌∙◌, ap, subst}
 use Rattle.cell_model.specs.Cells.{cell_in}
 use Rattle.msg_format.specs.Records.{record_size, id_of}
-use Rattle.part_log.specs.Records.{records_of}
-use Rattle.part_log.specs.Log.{LogState, target_of}
+use Rattle.part_log.specs.declared.fault.LogFault.{LogFault}
+use Rattle.part_log.specs.declared.fault.LogFault.TheVariants as faulty
+use Rattle.part_log.specs.Log.{target_of}
 use Rattle.replica_core.specs.declared.index.Spot.{Spot}
-use Rattle.replica_core.specs.Maps.{MayCome, JoinsCell, cell_of}
-use Rattle.replica_core.specs.Index.{cells_of, IsReady}
+use Rattle.replica_core.specs.Maps.{MayCome}
+use Rattle.replica_core.specs.Index.{cells_of}
 use Rattle.replica_core.specs.State.{ReplicaState}
 use Rattle.replica_core.proofs.Adding.{joins, added_index, added_cells, kept_cells}
+use Rattle.replica_core.proofs.Replies.{one_fault}
+use Rattle.replica_core.proofs.Putting.{writes_one, writes_maybe}
 use Rattle.replica_core.proofs.replica.Replica.add.Goals as goal
 
 pub invariant_of-self : goal.invariant_of-self
@@ -43,6 +45,16 @@ returns-in-Ok-clause-during g c =
     let indexed = ready.indexed t in
     joins s.log.table old s.index.entries e ready.good indexed (may t) new (target_of s.log.table (record_size e)) (c.put_noted.ensures.during t indexed.placed indexed.log))
 
+pub returns-in-Ok-clause-writes : goal.returns-in-Ok-clause-writes
+returns-in-Ok-clause-writes g c =
+    let s = c.self.inside in
+    let e = c.args.entry.now in
+    let up : s.down ≡ false = ap (λ (v : ReplicaState g.row.D.Denot). v.down) c.self.view_is ∙ c.requires.up in
+    let ready = (c.self.invariant up).1 in
+    rw (← c.self.view_is) (λ t.
+    let indexed = ready.indexed t in
+    writes_one g.D.Disk.content s.log c.put_noted.new.log e indexed.placed (target_of s.log.table (record_size e)) ready.good indexed.log (c.put_noted.ensures.during t indexed.placed indexed.log) _ c.in-Ok.field-0 c.in-Ok.ensures.good (c.in-Ok.ensures.put t indexed.placed indexed.log) c.put_noted.ensures.settings c.in-Ok.ensures.grows)
+
 pub returns-in-Ok-clause-added : goal.returns-in-Ok-clause-added
 returns-in-Ok-clause-added g c =
     let s = c.self.inside in
@@ -68,6 +80,16 @@ returns-in-Err-Failed-clause-during g c =
     rw (← c.self.view_is) (λ t.
     let indexed = ready.indexed t in
     joins s.log.table old s.index.entries e ready.good indexed (may t) new (target_of s.log.table (record_size e)) (c.put_noted.ensures.during t indexed.placed indexed.log))
+
+pub returns-in-Err-Failed-clause-writes : goal.returns-in-Err-Failed-clause-writes
+returns-in-Err-Failed-clause-writes g c =
+    let s = c.self.inside in
+    let e = c.args.entry.now in
+    let up : s.down ≡ false = ap (λ (v : ReplicaState g.row.D.Denot). v.down) c.self.view_is ∙ c.requires.up in
+    let ready = (c.self.invariant up).1 in
+    rw (← c.self.view_is) (λ t.
+    let indexed = ready.indexed t in
+    writes_maybe g.D.Disk.content s.log c.put_noted.new.log e indexed.placed (target_of s.log.table (record_size e)) ready.good indexed.log (c.put_noted.ensures.during t indexed.placed indexed.log) _ (λ settled. absurd (settled refl)) c.in-Err-Failed.ensures.same_end)
 
 pub returns-in-Err-Failed-clause-kept : goal.returns-in-Err-Failed-clause-kept
 returns-in-Err-Failed-clause-kept g c =
@@ -95,6 +117,16 @@ returns-in-Err-clause-during g c =
     rw (← c.self.view_is) (λ t.
     let indexed = ready.indexed t in
     joins s.log.table old s.index.entries e ready.good indexed (may t) new (target_of s.log.table (record_size e)) (c.put_noted.ensures.during t indexed.placed indexed.log))
+
+pub returns-in-Err-clause-writes : goal.returns-in-Err-clause-writes
+returns-in-Err-clause-writes g c =
+    let s = c.self.inside in
+    let e = c.args.entry.now in
+    let up : s.down ≡ false = ap (λ (v : ReplicaState g.row.D.Denot). v.down) c.self.view_is ∙ c.requires.up in
+    let ready = (c.self.invariant up).1 in
+    rw (← c.self.view_is) (λ t.
+    let indexed = ready.indexed t in
+    writes_maybe g.D.Disk.content s.log c.put_noted.new.log e indexed.placed (target_of s.log.table (record_size e)) ready.good indexed.log (c.put_noted.ensures.during t indexed.placed indexed.log) _ (λ settled. ⊎_elim (λ failed. absurd (settled (ap (λ (f : LogFault). Err f) (one_fault {T = ℕ} c.in-Err.fault faulty.Failed failed)))) (λ same. same) c.in-Err.ensures.unchanged) c.in-Err.ensures.same_end)
 
 pub returns-in-Err-clause-kept : goal.returns-in-Err-clause-kept
 returns-in-Err-clause-kept g c =

@@ -1,19 +1,12 @@
-use Rattle.std.proofs.Common.{◌≡◌, ◌≢◌, inl, inr, ℕ, List, true, false, Err, refl, sym, ◌∙◌, ap, subst}
-use Rattle.std.proofs.lemmas.Bool.{iff_false}
-use Rattle.blob_id.specs.declared.blob.Blob.{Blob}
-use Rattle.cell_model.specs.declared.ask.Ask.TheVariants.{Put, Get, Peek, Delete, Merge}
-use Rattle.cell_model.specs.declared.ask.Reply.{Reply}
+use Rattle.std.proofs.Common.{◌≡◌, false, refl, sym, ◌∙◌, ap, subst}
+use Rattle.cell_model.specs.declared.ask.Ask.TheVariants.{Get}
 use Rattle.cell_model.specs.declared.ask.Reply.TheVariants as replied
 use Rattle.cell_model.specs.declared.cell.Cell.{Cell}
-use Rattle.cell_model.specs.declared.cell.Cell.TheVariants.{Absent, Held, Gone}
-use Rattle.cell_model.specs.Cells.{join, cell_in}
+use Rattle.cell_model.specs.Cells.{cell_in}
 use Rattle.cell_model.specs.Asks.{Answers}
-use Rattle.replica_core.specs.Maps.{StandsForCells}
-use Rattle.replica_core.specs.State.{ReplicaState, IsAsked}
+use Rattle.replica_core.specs.State.{ReplicaState}
 use Rattle.replica_core.proofs.Maps.{join_absent}
-use Rattle.replica_core.proofs.Noting.{noted_leaves}
-use Rattle.replica_core.proofs.Standing.{stands_cells}
-use Rattle.replica_core.proofs.Replies.{IsRead, IsPut, nothing_read, asked_carried, asked_failed, asked_put, deleted_done, merged_done, gone_changes}
+use Rattle.replica_core.proofs.Replies.{nothing_read, asked_carried}
 use Rattle.replica_core.proofs.replica.Replica.get.Goals as goal
 
 pub returns-then-spot : goal.returns-then-spot

@@ -1,19 +1,15 @@
-use Rattle.std.proofs.Common.{◌≡◌, ◌≢◌, inl, inr, ℕ, List, true, false, Err, refl, sym, ◌∙◌, ap, subst}
+use Rattle.std.proofs.Common.{◌≡◌, false, refl, sym, subst}
 use Rattle.std.proofs.lemmas.Bool.{iff_false}
-use Rattle.blob_id.specs.declared.blob.Blob.{Blob}
-use Rattle.cell_model.specs.declared.ask.Ask.TheVariants.{Put, Get, Peek, Delete, Merge}
+use Rattle.cell_model.specs.declared.ask.Ask.TheVariants.{Merge}
 use Rattle.cell_model.specs.declared.ask.Reply.{Reply}
 use Rattle.cell_model.specs.declared.ask.Reply.TheVariants as replied
 use Rattle.cell_model.specs.declared.cell.Cell.{Cell}
-use Rattle.cell_model.specs.declared.cell.Cell.TheVariants.{Absent, Held, Gone}
+use Rattle.cell_model.specs.declared.cell.Cell.TheVariants.{Gone}
 use Rattle.cell_model.specs.Cells.{join, cell_in}
-use Rattle.cell_model.specs.Asks.{Answers}
-use Rattle.replica_core.specs.Maps.{StandsForCells}
-use Rattle.replica_core.specs.State.{ReplicaState, IsAsked}
-use Rattle.replica_core.proofs.Maps.{join_absent}
-use Rattle.replica_core.proofs.Noting.{noted_leaves}
-use Rattle.replica_core.proofs.Standing.{stands_cells}
-use Rattle.replica_core.proofs.Replies.{IsRead, IsPut, nothing_read, asked_carried, asked_failed, asked_put, deleted_done, merged_done, gone_changes}
+use Rattle.msg_format.specs.declared.record.Record.TheVariants as written
+use Rattle.replica_core.specs.State.{IsAsked}
+use Rattle.replica_core.proofs.Putting.{due_gone}
+use Rattle.replica_core.proofs.Replies.{IsPut, nothing_read, asked_carried, asked_put, merged_done, gone_changes}
 use Rattle.replica_core.proofs.replica.Replica.merge_gone.Goals as goal
 
 pub returns-then-is_gone : goal.returns-then-is_gone
@@ -37,6 +33,9 @@ returns g c =
       answers = (λ t. merged_done (cell_in old.cells c.args.id) c.args.id Gone);
       changes = (λ t. gone_changes (cell_in old.cells c.args.id) (λ is. iff_false (c.is_gone.ensures.gone t up) c.if-is_gone.false is));
       during = e.during;
+      entry = written.Delete old.log.table.end c.args.id 0;
+      due = λ t. due_gone old.log.table.end (cell_in old.cells c.args.id) c.args.id (λ is. iff_false (c.is_gone.ensures.gone t up) c.if-is_gone.false is);
+      writes = e.writes;
       added = e.added;
       kept = e.kept;
       full = e.full;

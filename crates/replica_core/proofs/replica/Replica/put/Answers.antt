@@ -1,19 +1,15 @@
-use Rattle.std.proofs.Common.{◌≡◌, ◌≢◌, inl, inr, ℕ, List, true, false, Err, refl, sym, ◌∙◌, ap, subst}
-use Rattle.std.proofs.lemmas.Bool.{iff_false}
-use Rattle.blob_id.specs.declared.blob.Blob.{Blob}
-use Rattle.cell_model.specs.declared.ask.Ask.TheVariants.{Put, Get, Peek, Delete, Merge}
+use Rattle.std.proofs.Common.{◌≡◌, ◌≢◌, false, refl, sym, ◌∙◌, ap, subst}
+use Rattle.cell_model.specs.declared.ask.Ask.TheVariants.{Put}
 use Rattle.cell_model.specs.declared.ask.Reply.{Reply}
 use Rattle.cell_model.specs.declared.ask.Reply.TheVariants as replied
 use Rattle.cell_model.specs.declared.cell.Cell.{Cell}
-use Rattle.cell_model.specs.declared.cell.Cell.TheVariants.{Absent, Held, Gone}
+use Rattle.cell_model.specs.declared.cell.Cell.TheVariants.{Held}
 use Rattle.cell_model.specs.Cells.{join, cell_in}
 use Rattle.cell_model.specs.Asks.{Answers}
-use Rattle.replica_core.specs.Maps.{StandsForCells}
+use Rattle.msg_format.specs.declared.record.Record.TheVariants as written
 use Rattle.replica_core.specs.State.{ReplicaState, IsAsked}
-use Rattle.replica_core.proofs.Maps.{join_absent}
-use Rattle.replica_core.proofs.Noting.{noted_leaves}
-use Rattle.replica_core.proofs.Standing.{stands_cells}
-use Rattle.replica_core.proofs.Replies.{IsRead, IsPut, nothing_read, asked_carried, asked_failed, asked_put, deleted_done, merged_done, gone_changes}
+use Rattle.replica_core.proofs.Putting.{due_put}
+use Rattle.replica_core.proofs.Replies.{IsPut, nothing_read, asked_carried, asked_put}
 use Rattle.replica_core.proofs.replica.Replica.put.Goals as goal
 
 pub returns-then-spot : goal.returns-then-spot
@@ -43,6 +39,9 @@ returns g c =
       answers = (λ t. subst (λ (x : Cell). Answers x ask replied.Stored) (sym (c.in-None.ensures.noted t up)) refl);
       changes = (λ t. subst (λ (x : Cell). join x (Held c.args.blob) ≢ x) (sym (c.in-None.ensures.noted t up)) (λ is. absurd (cc is)));
       during = e.during;
+      entry = written.Put old.log.table.end c.args.id c.args.blob;
+      due = λ t. due_put old.log.table.end (cell_in old.cells c.args.id) c.args.id c.args.blob (c.in-None.ensures.noted t up);
+      writes = e.writes;
       added = e.added;
       kept = e.kept;
       full = e.full;
