@@ -1,0 +1,5 @@
+pub mod PortLemmas
+pub mod AskLemmas
+pub mod IndexLemmas
+pub mod RequestLemmas
+pub mod TestLemmas
