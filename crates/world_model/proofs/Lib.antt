@@ -10,6 +10,7 @@ pub mod WitnessLaws
 pub mod FollowLaws
 pub mod LocalLaws
 pub mod ToldLaws
+pub mod OrderLaws
 pub mod RouterLaws
 pub mod KeptLaws
 pub mod StoredLaws

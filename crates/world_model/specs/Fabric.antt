@@ -1,39 +1,19 @@
 -- What the calls on a network say of what it tells.
-use Rattle.std.specs.Prelude.{◌≡◌, ℕ, ◌≤◌, Bool, List, [], ◌∷◌, length, Option, Some, None, Result, Ok, Err}
-use Rattle.blob_id.specs.declared.id.BlobId.{BlobId}
+use Rattle.std.specs.Prelude.{◌≡◌, ℕ, ◌≤◌, List, [], ◌∷◌, length, Option, Some, None, Result, Ok, Err}
 use Rattle.world_model.specs.declared.fabric.SendFault.{SendFault}
+use Rattle.world_model.specs.declared.order.Order.{Order}
+use Rattle.world_model.specs.declared.order.Told.{Told}
 use Rattle.world_model.specs.declared.shape.Shape.{Shape}
 use Rattle.world_model.specs.declared.step.Called.{Called}
 use Rattle.world_model.specs.declared.step.Event.{Event}
 use Rattle.world_model.specs.declared.step.Step.{Step}
+use Rattle.world_model.specs.Orders.{ComesTo}
 use Rattle.world_model.specs.Told.{told, AllNetwork}
-use Rattle.world_model.specs.World.{Cells, Change, World, world, Run}
-
--- what the replicas of a network hold, what is in doubt there, and which nodes are stopped
-pub record Image : Type 0 where
-  pub cells : Cells
-  pub doubts : ℕ → ℕ → Option Change
-  pub stopped : ℕ → Bool
-
--- the image is that of the world
-pub record IsImageOf (image : Image) (w : World) : Type 0 where
-  pub cells : (n p : ℕ) (id : BlobId) → image.cells n p id ≡ w.cells n p id
-  pub doubts : (n p : ℕ) → image.doubts n p ≡ w.doubts n p
-  pub stopped : (n : ℕ) → image.stopped n ≡ w.stopped n
-
--- what was told is a run from these cells, and leads to this image
-pub record LeadsTo (opening : Cells) (calls : List Called) (image : Image) : Type 0 where
-  pub run : Run opening (told calls)
-  pub reached : IsImageOf image (world opening (told calls))
-
--- the same of a network that tells both
-abbrev pub RunsTo : Cells → Option (List Called) → Option Image → Type 0
-RunsTo opening (Some calls) (Some image) = LeadsTo opening calls image
-RunsTo opening _ _ = ⊥
+use Rattle.world_model.specs.World.{Cells, world, Run}
 
 -- what was a run, from whatever cells, still is one
-abbrev pub KeepsRun : (old : Option (List Called)) → Option Image → (new : Option (List Called)) → Option Image → Type 0
-KeepsRun old image new image' = (opening : Cells) → RunsTo opening old image → RunsTo opening new image'
+abbrev pub KeepsRun : (old new : Cells → Type 0) → Type 0
+KeepsRun old new = (opening : Cells) → old opening → new opening
 
 -- where calls are told, one more is, and it is of this kind; where they aren't told, they still aren't
 abbrev pub Tells : (old new : Option (List Called)) → (Called → Type 0) → Type 0
@@ -71,3 +51,25 @@ Awaits (Some calls) n = (opening : Cells) → Run opening (told calls) → n ≡
 abbrev pub HasNode : Option Shape → ℕ → Type 0
 HasNode None node = ⊥
 HasNode (Some shape) node = (1 ≤ node) × (node ≤ shape.nodes)
+
+-- one that is told where its calls are
+abbrev pub IsToldRun : Cells → Option (List Called) → Type 0
+IsToldRun opening None = Unit {0}
+IsToldRun opening (Some calls) = Run opening (told calls)
+
+-- what came of an order, as one more call: steps that are no doing of the router's, by which the order came to this
+pub record Obeyed (order : Order) (answer : Told) (before : List Called) (call : Called) : Type 0 where
+  pub network : AllNetwork call.steps
+  pub none : call.given ≡ None
+  pub comes : ComesTo order answer call.steps (told before)
+
+abbrev pub TellsOrder : Result Told SendFault → (old new : Option (List Called)) → Order → Type 0
+TellsOrder (Ok answer) None new order = new ≡ None
+TellsOrder (Ok answer) (Some calls) new order = (call : Called) × Obeyed order answer calls call × (new ≡ Some (call ∷ calls))
+TellsOrder (Err fault) old new order = new ≡ old
+
+-- An order that a network takes: that a node of its shape is to stop, or to run again.
+abbrev pub TakesOrder : Option Shape → Order → Type 0
+TakesOrder shape (Order.Stop node) = HasNode shape node
+TakesOrder shape (Order.Restart node) = HasNode shape node
+TakesOrder shape order = ⊥

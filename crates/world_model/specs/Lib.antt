@@ -2,6 +2,7 @@ pub mod Lists
 pub mod Shape
 pub mod Frames
 pub mod Record
+pub mod Orders
 pub mod Rules
 pub mod Pieces
 pub mod World
@@ -14,3 +15,4 @@ pub mod Safe
 pub mod Told
 pub mod Fabric
 pub mod Schedule
+pub mod Seeds

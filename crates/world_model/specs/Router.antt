@@ -8,12 +8,13 @@ use Rattle.quorum_op.specs.declared.outcome.Outcome.{Outcome}
 use Rattle.req_frame.specs.declared.frame.Body.{Body}
 use Rattle.req_frame.specs.declared.frame.Frame.{Frame}
 use Rattle.world_model.specs.declared.history.Begun.{Begun}
-use Rattle.world_model.specs.declared.history.HistoryMark.TheVariants.{Begin, Drew, End, Cancel}
+use Rattle.world_model.specs.declared.history.HistoryMark.TheVariants.{Begin, Drew, End, Cancel, Ordered}
 use Rattle.world_model.specs.declared.shape.Shape.{Shape}
 use Rattle.world_model.specs.declared.step.Step.{Step}
 use Rattle.world_model.specs.Frames.{frame_in}
 use Rattle.world_model.specs.Lists.{Has, Earlier, Each}
 use Rattle.world_model.specs.Notes.{is_drained, Aim, Asked, asked, aim_of, clock_of, operation_of, request_of, router_frame, verdict_of}
+use Rattle.world_model.specs.Orders.{CameTo}
 use Rattle.world_model.specs.Outcomes.{BeganAt, Began, put_piece, read_piece, delete_piece, named, IsChunkAt, IsWhole, Follows}
 use Rattle.world_model.specs.Pieces.{is_simple, is_composite, is_chunk, Metadata, metadata_of, parts}
 use Rattle.world_model.specs.Record.{Part, Top, Chunk, Item, Marked, Drawn, Took, Given, Withheld, Decided, Record, is_line, turns_in}
@@ -235,11 +236,12 @@ pub record Ends (before : Record) (operation : ℕ) (outcome : Outcome) : Type 0
   pub order : outcome ≢ Outcome.Cancelled → (other : ℕ) (how : Outcome) (then : Record) → Earlier (Decided other how ∷ then) before → GoesFirst then other at operation → Has before (Marked (End other how))
   pub once : HasEnded before operation → ⊥
 
--- the router does its part of an item, with the record before it
+-- The router and its session do their part of an item, with the record before it.
 abbrev pub Keeps : Rules → Item → Record → Type 0
 Keeps rules (Marked (Begin operation begun)) before = BeginsNext before operation
 Keeps rules (Marked (Drew operation id)) before = ⊥
 Keeps rules (Marked (End operation outcome)) before = Ends before operation outcome
+Keeps rules (Marked (Ordered order told)) before = CameTo order told before
 Keeps rules (Drawn operation part attempt id blob) before = DrawsPart rules before operation part attempt id blob
 Keeps rules (Decided operation outcome) before = Decides rules before operation outcome
 Keeps rules (Took (Step.Send from node frame)) before = from ≡ 0 → SendsSome rules.shape before node (frame_in frame)

@@ -35,12 +35,13 @@ move_of a v nodes partitions =
 abbrev pub seeded_move : (x nodes partitions : ℕ) → Move
 seeded_move x nodes partitions = move_of (number_in (next_state x) % 100) (number_in (next_state (next_state x))) nodes partitions
 
--- a seeded schedule: plain with seed 0, or in a state; the moves given; and how many more it has room for
+-- a seeded schedule: plain with seed 0, or in a state; the moves given; how many more it has room for; and the seeds that it was begun with
 pub record Schedule : Type 0 where
   pub plain : Bool
   pub state : ℕ
   pub given : List Move
   pub room : ℕ
+  pub seeds : List ℕ
 
 abbrev pub picked : Schedule → (nodes partitions requests replies : ℕ) → Move
 picked s nodes partitions requests replies = cond s.plain (plain_move requests replies) (seeded_move s.state nodes partitions)

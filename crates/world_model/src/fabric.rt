@@ -4,9 +4,11 @@ ghost use Rattle.std.specs.Prelude.{◌≡◌, ℕ, ◌≤◌, Bool, true, List,
 ghost use Rattle.outside.specs.Causes.{Rose};
 ghost use Rattle.world_model.specs.declared.shape.Shape.{Shape};
 ghost use Rattle.world_model.specs.declared.step.Called.{Called};
-ghost use Rattle.world_model.specs.Fabric.{Awaits, DidNothing, Gave, HasNode, Image, KeepsRun, Tells, TellsSend};
+ghost use Rattle.world_model.specs.Fabric.{Awaits, DidNothing, Gave, HasNode, IsToldRun, KeepsRun, TakesOrder, Tells, TellsOrder, TellsSend};
 ghost use Rattle.world_model.specs.Shape.{IsShape};
+ghost use Rattle.world_model.specs.World.{Cells};
 
+use crate::order::{Order, Told};
 use crate::shape::Shape;
 use crate::step::Event;
 use blob_id::Memory;
@@ -31,7 +33,7 @@ pub enum SendFault {
 }
 
 /// A network of nodes. Where `told` is some list, it tells what its calls did, the newest first. Where what it tells is a run
-/// of the model from given cells to the image that it tells, each call keeps this.
+/// of the model from given cells to those that its replicas hold, each call keeps this.
 pub trait Fabric {
     /// How often it has failed.
     ghost faults: { Self → ℕ };
@@ -45,8 +47,12 @@ pub trait Fabric {
     /// What its calls did, where it tells this. A call that finds no memory and `close` tell nothing.
     ghost told: { Self → Option (List Called) };
 
-    /// For a shape and a folder, what its replicas hold, where it tells this: before `open` what an opening would find.
-    ghost image: { Self → Shape → List ℕ → Option Image };
+    /// Whether what its replicas hold is known: their disks tell it.
+    ghost knows: { Self → Type 0 };
+
+    /// For a shape and a folder: from these cells, where it knows what its replicas hold, what it told is a run to that. Before
+    /// `open` they are what an opening would find.
+    ghost runs: { Self → Shape → List ℕ → Cells → Type 0 };
 
     /// What a network of this kind may become by its calls.
     ghost goes: { Self → Self → Type 0 };
@@ -63,7 +69,7 @@ pub trait Fabric {
         ensures opened { OnOk result (opened self.new ≡ Some shape.now) }
         ensures told { OnOk result (Tells (told self.old) (told self.new) DidNothing) }
         ensures err { OnErr result (told self.new ≡ told self.old) }
-        ensures run { OnOk result (KeepsRun (told self.old) (image self.old shape.now folder.now) (told self.new) (image self.new shape.now folder.now)) }
+        ensures run { OnOk result (KeepsRun (runs self.old shape.now folder.now) (runs self.new shape.now folder.now)) }
         ensures goes { OnOk result (goes self.old self.new) }
         ensures falls { falls self.old self.new };
 
@@ -74,7 +80,7 @@ pub trait Fabric {
         ensures cause { IsErrOf result SendFault.Failed → Rose (faults self.old) (faults self.new) }
         ensures opened { opened self.new ≡ opened self.old }
         ensures told { TellsSend result (told self.old) (told self.new) node frame.now }
-        ensures run { (cluster : Shape) (place : List ℕ) → KeepsRun (told self.old) (image self.old cluster place) (told self.new) (image self.new cluster place) }
+        ensures run { (cluster : Shape) (place : List ℕ) → KeepsRun (runs self.old cluster place) (runs self.new cluster place) }
         ensures goes { (IsErrOf result SendFault.Memory → ⊥) → goes self.old self.new }
         ensures falls { falls self.old self.new };
 
@@ -86,8 +92,19 @@ pub trait Fabric {
         ensures opened { opened self.new ≡ opened self.old }
         ensures told { IfOk result (λ event. Tells (told self.old) (told self.new) (Gave event)) }
         ensures err { OnErr result (told self.new ≡ told self.old) }
-        ensures run { (cluster : Shape) (place : List ℕ) → KeepsRun (told self.old) (image self.old cluster place) (told self.new) (image self.new cluster place) }
+        ensures run { (cluster : Shape) (place : List ℕ) → KeepsRun (runs self.old cluster place) (runs self.new cluster place) }
         ensures goes { OnOk result (goes self.old self.new) }
+        ensures falls { falls self.old self.new };
+
+    /// Carries an order out, and waits for what comes of it. The events that it makes are given by `next`. A refusal tells nothing.
+    fn admin(&mut self, order: &Order) -> Result<Told, SendFault>
+        requires order { TakesOrder (opened self.old) order.now }
+        ensures later { faults self.old ≤ faults self.new }
+        ensures cause { IsErrOf result SendFault.Failed → Rose (faults self.old) (faults self.new) }
+        ensures opened { opened self.new ≡ opened self.old }
+        ensures told { TellsOrder result (told self.old) (told self.new) order.now }
+        ensures run { (cluster : Shape) (place : List ℕ) → KeepsRun (runs self.old cluster place) (runs self.new cluster place) }
+        ensures goes { (IsErrOf result SendFault.Memory → ⊥) → goes self.old self.new }
         ensures falls { falls self.old self.new };
 
     /// How many events `next` gives before it moves on.
@@ -100,11 +117,14 @@ pub trait Fabric {
         ensures later { faults self.old ≤ faults self.new }
         ensures opened { opened self.new ≡ None }
         ensures told { told self.new ≡ told self.old }
-        ensures run { (cluster : Shape) (place : List ℕ) → KeepsRun (told self.old) (image self.old cluster place) (told self.new) (image self.new cluster place) }
+        ensures run { (cluster : Shape) (place : List ℕ) → KeepsRun (runs self.old cluster place) (runs self.new cluster place) }
         ensures goes { goes self.old self.new };
 
     /// A network that was never opened has done nothing.
     ghost fresh_did_nothing: { (a : Self) (calls : List Called) → fresh a ≡ true → told a ≡ Some calls → calls ≡ [] };
+
+    /// A run that is known is one of the model.
+    ghost runs_by_rules: { (a : Self) (cluster : Shape) (place : List ℕ) (opening : Cells) → knows a → runs a cluster place opening → IsToldRun opening (told a) };
 
     ghost goes_nowhere: { (a : Self) → goes a a };
 
@@ -125,7 +145,9 @@ impl<F: Fabric> Fabric for &mut F {
 
     ghost told = { λ f. F.told f.now };
 
-    ghost image = { λ f cluster place. F.image f.now cluster place };
+    ghost knows = { λ f. F.knows f.now };
+
+    ghost runs = { λ f cluster place opening. F.runs f.now cluster place opening };
 
     ghost goes = { λ f g. F.goes f.now g.now };
 
@@ -143,6 +165,10 @@ impl<F: Fabric> Fabric for &mut F {
         (**self).next()
     }
 
+    fn admin(&mut self, order: &Order) -> Result<Told, SendFault> {
+        (**self).admin(order)
+    }
+
     fn queued(&self) -> u32 {
         (**self).queued()
     }
@@ -152,6 +178,8 @@ impl<F: Fabric> Fabric for &mut F {
     }
 
     ghost fresh_did_nothing = { λ a calls f t. F.fresh_did_nothing a.now calls f t };
+
+    ghost runs_by_rules = { λ a cluster place opening k r. F.runs_by_rules a.now cluster place opening k r };
 
     ghost goes_nowhere = { λ a. F.goes_nowhere a.now };
 

@@ -1,5 +1,6 @@
 //! The history of a session: what was asked, and how it ended.
 
+use crate::order::{Order, Told};
 use blob_id::{BlobId, Bytes, Listed};
 use quorum_op::Outcome;
 
@@ -50,5 +51,10 @@ pub enum HistoryMark {
     Drain {
         node: u32,
         on: bool,
+    },
+    /// The network was ordered this, and told that.
+    Ordered {
+        order: Order,
+        told: Told,
     },
 }

@@ -39,17 +39,22 @@ pub trait Moves {
     /// How many more moves there is room to keep.
     ghost room: { Self → ℕ };
 
+    /// The seeds that it was begun with so far, in order.
+    ghost seeds: { Self → List ℕ };
+
     /// It is the same schedule, where it is one that is lent.
     ghost same: { Self → Self → Type 0 };
 
     /// Begins with a seed.
     fn start(&mut self, seed: u64)
         ensures given { given self.new ≡ given self.old }
+        ensures seeds { seeds self.new ≡ seeds self.old ++ seed ∷ [] }
         ensures same { same self.old self.new };
 
     /// Makes the room to keep one more move.
     fn ready(&mut self) -> Result<(), Memory>
         ensures given { given self.new ≡ given self.old }
+        ensures seeds { seeds self.new ≡ seeds self.old }
         ensures ok { OnOk result (0 < room self.new) }
         ensures same { same self.old self.new };
 
@@ -59,6 +64,7 @@ pub trait Moves {
         requires nodes { 1 ≤ nodes }
         requires partitions { 1 ≤ partitions }
         ensures given { given self.new ≡ given self.old ++ result ∷ [] }
+        ensures seeds { seeds self.new ≡ seeds self.old }
         ensures same { same self.old self.new };
 
     ghost same_self: { (a : Self) → same a a };
@@ -73,6 +79,8 @@ impl<M: Moves> Moves for &mut M {
     ghost given = { λ s. M.given s.now };
 
     ghost room = { λ s. M.room s.now };
+
+    ghost seeds = { λ s. M.seeds s.now };
 
     ghost same = { λ a b. a.ghost_name ≡ b.ghost_name };
 

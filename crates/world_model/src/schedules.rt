@@ -2,8 +2,10 @@
 
 ghost use Rattle.std.specs.Prelude.{◌≡◌, ℕ, ◌+◌, ◌-◌, ◌*◌, ◌/◌, ◌%◌, ◌^◌, ◌<◌, ◌≤◌, ◌==◌, Bool, true, List, [], ◌∷◌, ◌++◌, length, drop, cond, OnOk, vec_len, vec_capacity, min, max};
 ghost use Rattle.world_model.specs.Schedule.{Schedule, listed_move, move_of, next_state, number_in, picked, plain_move, seeded_move};
+ghost use Rattle.world_model.specs.Seeds.{seeds_of};
 
 use crate::moves::{Move, Moves};
+use crate::seeds::Seeds;
 use blob_id::Memory;
 use std::alloc::Global;
 use std::marker::Model;
@@ -30,11 +32,12 @@ fn add(given: &mut Vec<Move>, chosen: Move)
 }
 
 /// The listed moves, and then those of the plain schedule.
-#[derive(Debug, Drop)]
+#[derive(Drop)]
 pub struct ListMoves {
     pub list: Vec<Move>,
     pub next: usize,
     pub given: Vec<Move>,
+    pub seeds: Seeds,
 }
 
 impl ListMoves {
@@ -42,11 +45,13 @@ impl ListMoves {
         ensures list { result.list ≡ list }
         ensures start { result.next ≡ 0 }
         ensures none { result.given.items ≡ [] }
+        ensures unbegun { seeds_of result.seeds ≡ [] }
     {
         ListMoves {
             list,
             next: 0,
             given: Vec::new(alloc),
+            seeds: Seeds::Unbegun,
         }
     }
 }
@@ -56,17 +61,23 @@ impl Moves for ListMoves {
 
     ghost room = { λ m. vec_capacity m.given - vec_len m.given };
 
+    ghost seeds = { λ m. seeds_of m.seeds };
+
     ghost same = { λ a b. Unit {0} };
 
     /// The list stays, whatever the seed.
-    fn start(&mut self, _seed: u64)
-        ensures given { self.new.given ≡ self.old.given }
+    fn start(&mut self, seed: u64)
+        ensures given { self.new.given.items ≡ self.old.given.items }
+        ensures seeds { seeds_of self.new.seeds ≡ seeds_of self.old.seeds ++ seed ∷ [] }
         ensures same { Unit {0} }
         ensures list { (self.new.list ≡ self.old.list) × (self.new.next ≡ self.old.next) }
-    {}
+    {
+        self.seeds = self.seeds.with(seed);
+    }
 
     fn ready(&mut self) -> Result<(), Memory>
         ensures given { self.new.given.items ≡ self.old.given.items }
+        ensures seeds { seeds_of self.new.seeds ≡ seeds_of self.old.seeds }
         ensures ok { OnOk result (0 < vec_capacity self.new.given - vec_len self.new.given) }
         ensures same { Unit {0} }
         ensures list { (self.new.list ≡ self.old.list) × (self.new.next ≡ self.old.next) }
@@ -78,6 +89,7 @@ impl Moves for ListMoves {
     fn pick(&mut self, _nodes: u32, _partitions: u32, requests: u32, replies: u32) -> Move
         requires room { 0 < vec_capacity self.old.given - vec_len self.old.given }
         ensures given { self.new.given.items ≡ self.old.given.items ++ result ∷ [] }
+        ensures seeds { seeds_of self.new.seeds ≡ seeds_of self.old.seeds }
         ensures same { Unit {0} }
         ensures picked { result ≡ listed_move self.old.list.items self.old.next requests replies }
         ensures next { self.new.next ≡ min (self.old.next + 1) (max self.old.next (length self.old.list.items)) }
@@ -100,20 +112,22 @@ impl Moves for ListMoves {
 }
 
 /// The seeded schedule: with seed 0 the plain one, and with any other the moves of a generator that starts with the seed.
-#[derive(Debug, Drop)]
+#[derive(Drop)]
 pub struct SeedMoves {
     plain: bool,
     state: u64,
     given: Vec<Move>,
+    seeds: Seeds,
 }
 
 impl Model for SeedMoves {
     ghost use Rattle.std.specs.Prelude.{◌-◌, vec_len, vec_capacity};
     ghost use Rattle.world_model.specs.Schedule.{Schedule};
+    ghost use Rattle.world_model.specs.Seeds.{seeds_of};
 
     ghost Value = { Schedule };
 
-    ghost view = { λ m. record { plain = m.plain; state = m.state; given = m.given.items; room = vec_capacity m.given - vec_len m.given } };
+    ghost view = { λ m. record { plain = m.plain; state = m.state; given = m.given.items; room = vec_capacity m.given - vec_len m.given; seeds = seeds_of m.seeds } };
 }
 
 impl SeedMoves {
@@ -121,11 +135,13 @@ impl SeedMoves {
     pub fn new(alloc: Global) -> SeedMoves
         ensures plain { result.plain ≡ true }
         ensures none { result.given ≡ [] }
+        ensures unbegun { result.seeds ≡ [] }
     {
         SeedMoves {
             plain: true,
             state: 0,
             given: Vec::new(alloc),
+            seeds: Seeds::Unbegun,
         }
     }
 }
@@ -172,20 +188,25 @@ impl Moves for SeedMoves {
 
     ghost room = { λ m. m.room };
 
+    ghost seeds = { λ m. m.seeds };
+
     ghost same = { λ a b. Unit {0} };
 
     fn start(&mut self, seed: u64)
         ensures given { self.new.given ≡ self.old.given }
+        ensures seeds { self.new.seeds ≡ self.old.seeds ++ seed ∷ [] }
         ensures same { Unit {0} }
         ensures plain { self.new.plain ≡ (seed == 0) }
         ensures state { self.new.state ≡ seed }
     {
         self.plain = seed == 0;
         self.state = seed;
+        self.seeds = self.seeds.with(seed);
     }
 
     fn ready(&mut self) -> Result<(), Memory>
         ensures given { self.new.given ≡ self.old.given }
+        ensures seeds { self.new.seeds ≡ self.old.seeds }
         ensures ok { OnOk result (0 < self.new.room) }
         ensures same { Unit {0} }
         ensures stays { (self.new.plain ≡ self.old.plain) × (self.new.state ≡ self.old.state) }
@@ -199,6 +220,7 @@ impl Moves for SeedMoves {
         requires nodes { 1 ≤ nodes }
         requires partitions { 1 ≤ partitions }
         ensures given { self.new.given ≡ self.old.given ++ result ∷ [] }
+        ensures seeds { self.new.seeds ≡ self.old.seeds }
         ensures same { Unit {0} }
         ensures picked { result ≡ picked self.old nodes partitions requests replies }
         ensures state { self.new.state ≡ cond self.old.plain self.old.state (next_state (next_state self.old.state)) }
