@@ -12,6 +12,7 @@ pub mod PostLaws
 pub mod BeginLaws
 pub mod EndLaws
 pub mod TurnLaws
+pub mod OrderingLaws
 pub mod DoesLaws
 pub mod PollLaws
 pub mod SendLaws

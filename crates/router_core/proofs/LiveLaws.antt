@@ -1,5 +1,6 @@
 -- How what a router keeps of the operation under way goes on with the record.
 use Rattle.std.proofs.Common.{◌≡◌, ◌≢◌, ℕ, suc, ◌+◌, ◌*◌, ◌^◌, ◌<◌, ◌≤◌, true, false, List, [], ◌∷◌, ◌++◌, length, map, Option, Some, None, refl, sym, ap, ◌∙◌, subst, inl, inr, arith}
+use Rattle.std.specs.List.{list_any}
 use Rattle.blob_id.specs.declared.id.BlobId.{BlobId}
 use Rattle.cell_model.specs.declared.ask.Reply.{Reply}
 use Rattle.quorum_op.specs.declared.cause.Cause.{Cause}
@@ -7,13 +8,14 @@ use Rattle.quorum_op.specs.declared.outcome.Outcome.{Outcome}
 use Rattle.quorum_op.specs.Counts.{or_else}
 use Rattle.req_frame.specs.declared.frame.Frame.{Frame}
 use Rattle.req_frame.specs.Reading.{frame_of}
+use Rattle.world_model.specs.declared.history.Begun.{Begun}
 use Rattle.world_model.specs.declared.shape.Shape.{Shape}
 use Rattle.world_model.specs.declared.step.Event.{Event}
 use Rattle.world_model.specs.declared.step.Step.{Step}
 use Rattle.world_model.specs.Frames.{frame_in}
 use Rattle.world_model.specs.Lists.{Has}
 use Rattle.world_model.specs.Notes
-use Rattle.world_model.specs.Notes.{Asked, ask_as, asked, is_of, clock_of, events_in, router_frame}
+use Rattle.world_model.specs.Notes.{Asked, ask_as, asked, asked_now, is_of, clock_of, events_in, router_frame}
 use Rattle.world_model.specs.Record.{Item, Top, Aimed, Decided, Drawn, Took, Given, Record}
 use Rattle.world_model.specs.Shape.{IsShape, replica_of}
 use Rattle.world_model.specs.Told.{AllNetwork}
@@ -29,7 +31,7 @@ use Rattle.op_table.specs.declared.telling.Telling.{Telling}
 use Rattle.op_table.specs.declared.telling.Told.{Told}
 use Rattle.op_table.specs.declared.waiting.Waiting.{Waiting}
 use Rattle.op_table.specs.Heard.{heard_of, reply_in}
-use Rattle.op_table.specs.Piece.{FailsToSend, SendsEntry}
+use Rattle.op_table.specs.Piece.{FailsToSend, SendsEntry, is_mute}
 use Rattle.op_table.specs.Tied.{AreNumbered, OwnsCalls}
 use Rattle.op_table.specs.Told.{left, say, still_heard, told_all, told_calls}
 use Rattle.op_table.proofs.TiedLaws.{batch_added, event_told, item_stays, network_stays, request_refused, request_sent}
@@ -40,8 +42,8 @@ use Rattle.router_core.specs.Jobs.{Job, Puts, Gets, Deletes, DrewOnly, EachIs, G
 use Rattle.router_core.specs.Requests.{correlation_for, entry_for, node_for}
 use Rattle.router_core.specs.Stages.{simple_rules, AimsBelow, AsksBelow, IsUnderWay, IsOver}
 use Rattle.router_core.specs.Removals.{IsNoStore, IsToDelete}
-use Rattle.router_core.specs.Stands.{GivesAllUp, IsPending, IsSettled, Leaves, OwnsLive, order, outcome_now, wants_now}
-use Rattle.router_core.proofs.AimLaws.{below_aimed, below_more, below_stays, below_took}
+use Rattle.router_core.specs.Stands.{GivesAllUp, IsPending, IsSettled, Leaves, OwnsLive, Waits, order, outcome_now, wants_now}
+use Rattle.router_core.proofs.AimLaws.{IsNoAim, below_aimed, below_more, below_stays, below_took}
 use Rattle.router_core.proofs.AskLaws.{aimed_record, drawn_later, frame_for, is_for_piece, own_request, sendable, sends_entry}
 use Rattle.router_core.proofs.FollowLaws.{follows}
 use Rattle.router_core.proofs.RemovalLaws.{all_wanted, drew_only}
@@ -131,6 +133,44 @@ live_took shape steps r live all o =
     drawn_took : (steps : List Step) → HasDrawnId r live.operation (clock_of o.then) o.job → HasDrawnId (map Took steps ++ r) live.operation (clock_of o.then) o.job
     drawn_took [] h = h
     drawn_took (step ∷ steps) h = drawn_later (Took step) (map Took steps ++ r) live.operation (clock_of o.then) o.job (drawn_took steps h)
+
+-- what waits for replies still does
+pub waits_took : (shape : Shape) (steps : List Step) (r : Record) (live : Live) → AllNetwork steps → Waits shape r live → Waits shape (map Took steps ++ r) live
+unfolding live_took
+waits_took shape steps r live all w = (live_took shape steps r live all w.0, w.1, w.2)
+
+-- ---- items that say nothing to it
+
+live_still : (shape : Shape) (item : Item) (r : Record) (live : Live) → IsNoAim item → is_mute item ≡ true → asked_now item r ≡ []
+    → ((begun : Begun) (then : Record) (next : ℕ) → IsUnderWay (simple_rules shape) r live.operation begun then next → IsUnderWay (simple_rules shape) (item ∷ r) live.operation begun then next) → OwnsLive shape r live [] → OwnsLive shape (item ∷ r) live []
+live_still shape item r live apart mute none on o =
+    let piece = piece_for live.operation o.job in
+    record {
+      job = o.job;
+      then = o.then;
+      calls = o.calls;
+      next = o.next;
+      from = o.from;
+      under_way = on (begun_as o.job) o.then o.next o.under_way;
+      aims = below_stays item r live.operation o.next o.next apart (omega arith) o.aims;
+      drawn = drawn_later item r live.operation (clock_of o.then) o.job o.drawn;
+      does = o.does;
+      goes_on = o.goes_on;
+      owns = item_stays (simple_rules shape) piece (target_for shape (clock_of o.then) o.job) item r live.requests o.calls [] o.under_way.going.kept mute (ap (λ (l : List Asked). list_any (is_of piece) l) none) o.owns;
+      some = o.some;
+      ahead = o.ahead;
+      numbered = tt;
+      counted = o.counted;
+      for_piece = tt;
+      kept_all = o.kept_all;
+    }
+
+pub waits_still : (shape : Shape) (item : Item) (r : Record) (live : Live) → IsNoAim item → is_mute item ≡ true → asked_now item r ≡ []
+    → ((begun : Begun) (then : Record) (next : ℕ) → IsUnderWay (simple_rules shape) r live.operation begun then next → IsUnderWay (simple_rules shape) (item ∷ r) live.operation begun then next) → Waits shape r live → Waits shape (item ∷ r) live
+unfolding live_still
+waits_still shape item r live apart mute none on w = (live_still shape item r live apart mute none on w.0, w.1, w.2)
+
+-- ---- what is told
 
 -- what is kept of an operation that was told an event
 pub record IsTold (heard : Heard) (events : ℕ) (old new : Live) : Type 0 where

@@ -10,13 +10,16 @@ use Rattle.quorum_op.specs.declared.outcome.Outcome.{Outcome}
 use Rattle.req_frame.specs.declared.frame.Body.{Body}
 use Rattle.req_frame.specs.declared.frame.Frame.{Frame}
 use Rattle.world_model.specs.declared.history.Begun.{Begun}
-use Rattle.world_model.specs.declared.history.HistoryMark.TheVariants.{Begin, End, Wait}
+use Rattle.world_model.specs.declared.history.HistoryMark.TheVariants.{Begin, End, Wait, Ordered}
+use Rattle.world_model.specs.declared.order.Order.{Order}
+use Rattle.world_model.specs.declared.order.Told.{Told}
 use Rattle.world_model.specs.declared.shape.Shape.{Shape}
 use Rattle.world_model.specs.declared.step.Event.{Event}
 use Rattle.world_model.specs.declared.step.Step.{Step}
 use Rattle.world_model.specs.Frames.{frame_in}
 use Rattle.world_model.specs.Lists.{Has, Earlier}
 use Rattle.world_model.specs.Notes.{Aim, Asked, Piece, ask_as, asked_by, asked_now, asked, aim_of, aims_at, fits, kind_of, id_of, is_of, is_drained, clock_of, events_in, operation_of, request_of, router_frame}
+use Rattle.world_model.specs.Orders.{CameTo}
 use Rattle.world_model.specs.Outcomes.{DrewNothing, IsWhole, Follows}
 use Rattle.world_model.specs.Pieces.{is_simple}
 use Rattle.world_model.specs.Record.{Part, Top, Item, Marked, Drawn, Aimed, Took, Given, Decided, Record, turns_in}
@@ -196,6 +199,14 @@ quiet_wait rules t before = record {
   ends = λ operation outcome e. cc e;
 }
 
+quiet_ordered : (rules : Rules) (order : Order) (answer : Told) (before : Record) → CameTo order answer before → IsQuiet rules (Marked (Ordered order answer)) before
+quiet_ordered rules order answer before came = record {
+  steady = record { keeps = came; begins = refl; drains = λ node. refl };
+  asks = refl;
+  decides = λ operation outcome e. cc e;
+  ends = λ operation outcome e. cc e;
+}
+
 -- Steps that are no doing of the router's leave each stage as it is.
 pub network : (rules : Rules) (steps : List Step) (r : Record) (operation : ℕ) (begun : Begun) (then : Record) (next : ℕ) → AllNetwork steps → IsUnderWay rules r operation begun then next → IsUnderWay rules (map Took steps ++ r) operation begun then next
 network rules [] r operation begun then next h u = u
@@ -231,8 +242,18 @@ waits_idle rules t r i = idle_quiet rules (Marked (Wait t)) r (quiet_wait rules 
 pub waits_over : (rules : Rules) (t : Option ℕ) (r : Record) (operation : ℕ) (outcome : Outcome) → IsOver rules r operation outcome → IsOver rules (Marked (Wait t) ∷ r) operation outcome
 waits_over rules t r operation outcome o = over_quiet rules (Marked (Wait t)) r operation outcome (quiet_wait rules t r) o
 
+-- and an order that came to what was told
+pub ordered : (rules : Rules) (order : Order) (answer : Told) (r : Record) (operation : ℕ) (begun : Begun) (then : Record) (next : ℕ) → CameTo order answer r → IsUnderWay rules r operation begun then next → IsUnderWay rules (Marked (Ordered order answer) ∷ r) operation begun then next
+ordered rules order answer r operation begun then next came u = under_way_quiet rules (Marked (Ordered order answer)) r operation begun then next (quiet_ordered rules order answer r came) u
+
+pub ordered_idle : (rules : Rules) (order : Order) (answer : Told) (r : Record) → CameTo order answer r → IsIdle rules r → IsIdle rules (Marked (Ordered order answer) ∷ r)
+ordered_idle rules order answer r came i = idle_quiet rules (Marked (Ordered order answer)) r (quiet_ordered rules order answer r came) i
+
+pub ordered_over : (rules : Rules) (order : Order) (answer : Told) (r : Record) (operation : ℕ) (outcome : Outcome) → CameTo order answer r → IsOver rules r operation outcome → IsOver rules (Marked (Ordered order answer) ∷ r) operation outcome
+ordered_over rules order answer r operation outcome came o = over_quiet rules (Marked (Ordered order answer)) r operation outcome (quiet_ordered rules order answer r came) o
+
 -- Of the clock and the numbers of events and of operations, steps of the network change none.
-clock_took : (steps : List Step) (r : Record) → clock_of (map Took steps ++ r) ≡ clock_of r
+pub clock_took : (steps : List Step) (r : Record) → clock_of (map Took steps ++ r) ≡ clock_of r
 clock_took [] r = refl
 clock_took (step ∷ steps) r = clock_took steps r
 
@@ -242,11 +263,11 @@ clock_given (Event.Reply node frame) steps r = clock_took steps r
 clock_given (Event.Broken node) steps r = clock_took steps r
 clock_given Event.Quiet steps r = clock_took steps r
 
-begun_took : (steps : List Step) (r : Record) → begun_in (map Took steps ++ r) ≡ begun_in r
+pub begun_took : (steps : List Step) (r : Record) → begun_in (map Took steps ++ r) ≡ begun_in r
 begun_took [] r = refl
 begun_took (step ∷ steps) r = begun_took steps r
 
-events_took : (steps : List Step) (r : Record) → events_in (map Took steps ++ r) ≡ events_in r
+pub events_took : (steps : List Step) (r : Record) → events_in (map Took steps ++ r) ≡ events_in r
 events_took [] r = refl
 events_took (step ∷ steps) r = events_took steps r
 

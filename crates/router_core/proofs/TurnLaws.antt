@@ -64,7 +64,7 @@ idle_stays shape event steps r stage is all owns =
     subst (λ (s : Stage). OwnsStage shape (Given event ∷ (map Took steps ++ r)) s) (sym is)
     (given_idle (simple_rules shape) event (map Took steps ++ r) (network_idle (simple_rules shape) steps r all (subst (λ (s : Stage). OwnsStage shape r s) is owns)))
 
-deletes_took : (shape : Shape) (steps : List Step) (r : Record) (operation : ℕ) (outcome : Outcome) → DeletesDrawn shape r operation outcome → DeletesDrawn shape (map Took steps ++ r) operation outcome
+pub deletes_took : (shape : Shape) (steps : List Step) (r : Record) (operation : ℕ) (outcome : Outcome) → DeletesDrawn shape r operation outcome → DeletesDrawn shape (map Took steps ++ r) operation outcome
 deletes_took shape [] r operation outcome d = d
 deletes_took shape (step ∷ steps) r operation outcome d = deletes_on shape (Took step) (map Took steps ++ r) operation outcome (λ id blob e. cc e) (deletes_took shape steps r operation outcome d)
 

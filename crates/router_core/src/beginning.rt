@@ -46,7 +46,7 @@ impl Router {
         ensures shape { self.new.shape ≡ self.old.shape }
         ensures opened { F.opened fabric.new ≡ F.opened fabric.old }
         ensures later { F.faults fabric.old ≤ F.faults fabric.new }
-        ensures run { (cluster : Shape) (place : List ℕ) → KeepsRun (F.told fabric.old) (F.image fabric.old cluster place) (F.told fabric.new) (F.image fabric.new cluster place) }
+        ensures run { (cluster : Shape) (place : List ℕ) → KeepsRun (F.runs fabric.old cluster place) (F.runs fabric.new cluster place) }
         ensures goes { OnOk result (F.goes fabric.old fabric.new) }
         ensures falls { F.falls fabric.old fabric.new }
     {
@@ -107,7 +107,7 @@ impl Router {
         ensures shape { self.new.shape ≡ self.old.shape }
         ensures opened { F.opened fabric.new ≡ F.opened fabric.old }
         ensures later { F.faults fabric.old ≤ F.faults fabric.new }
-        ensures run { (cluster : Shape) (place : List ℕ) → KeepsRun (F.told fabric.old) (F.image fabric.old cluster place) (F.told fabric.new) (F.image fabric.new cluster place) }
+        ensures run { (cluster : Shape) (place : List ℕ) → KeepsRun (F.runs fabric.old cluster place) (F.runs fabric.new cluster place) }
         ensures goes { OnOk result (F.goes fabric.old fabric.new) }
         ensures falls { F.falls fabric.old fabric.new }
     {
@@ -147,7 +147,7 @@ impl Router {
         ensures shape { self.new.shape ≡ self.old.shape }
         ensures opened { F.opened fabric.new ≡ F.opened fabric.old }
         ensures later { F.faults fabric.old ≤ F.faults fabric.new }
-        ensures run { (cluster : Shape) (place : List ℕ) → KeepsRun (F.told fabric.old) (F.image fabric.old cluster place) (F.told fabric.new) (F.image fabric.new cluster place) }
+        ensures run { (cluster : Shape) (place : List ℕ) → KeepsRun (F.runs fabric.old cluster place) (F.runs fabric.new cluster place) }
         ensures goes { OnOk result (F.goes fabric.old fabric.new) }
         ensures falls { F.falls fabric.old fabric.new }
     {

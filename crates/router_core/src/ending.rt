@@ -49,7 +49,7 @@ impl Router {
         ensures shape { self.new.shape ≡ self.old.shape }
         ensures opened { F.opened fabric.new ≡ F.opened fabric.old }
         ensures later { F.faults fabric.old ≤ F.faults fabric.new }
-        ensures run { (cluster : Shape) (place : List ℕ) → KeepsRun (F.told fabric.old) (F.image fabric.old cluster place) (F.told fabric.new) (F.image fabric.new cluster place) }
+        ensures run { (cluster : Shape) (place : List ℕ) → KeepsRun (F.runs fabric.old cluster place) (F.runs fabric.new cluster place) }
         ensures goes { OnOk result (F.goes fabric.old fabric.new) }
         ensures falls { F.falls fabric.old fabric.new }
     {
@@ -82,7 +82,7 @@ impl Router {
         ensures shape { self.new.shape ≡ self.old.shape }
         ensures opened { F.opened fabric.new ≡ F.opened fabric.old }
         ensures later { F.faults fabric.old ≤ F.faults fabric.new }
-        ensures run { (cluster : Shape) (place : List ℕ) → KeepsRun (F.told fabric.old) (F.image fabric.old cluster place) (F.told fabric.new) (F.image fabric.new cluster place) }
+        ensures run { (cluster : Shape) (place : List ℕ) → KeepsRun (F.runs fabric.old cluster place) (F.runs fabric.new cluster place) }
         ensures goes { OnOk result (F.goes fabric.old fabric.new) }
         ensures falls { F.falls fabric.old fabric.new }
     {
@@ -114,7 +114,7 @@ fn settle_stage<F: Fabric>(
     ensures idle { is_idle stage.new ≡ is_idle stage.old }
     ensures opened { F.opened fabric.new ≡ F.opened fabric.old }
     ensures later { F.faults fabric.old ≤ F.faults fabric.new }
-    ensures run { (cluster : Shape) (place : List ℕ) → KeepsRun (F.told fabric.old) (F.image fabric.old cluster place) (F.told fabric.new) (F.image fabric.new cluster place) }
+    ensures run { (cluster : Shape) (place : List ℕ) → KeepsRun (F.runs fabric.old cluster place) (F.runs fabric.new cluster place) }
     ensures goes { OnOk result (F.goes fabric.old fabric.new) }
     ensures falls { F.falls fabric.old fabric.new }
 {
@@ -152,7 +152,7 @@ fn settle_live<F: Fabric>(
     ensures operation { live.new.operation ≡ live.old.operation }
     ensures opened { F.opened fabric.new ≡ F.opened fabric.old }
     ensures later { F.faults fabric.old ≤ F.faults fabric.new }
-    ensures run { (cluster : Shape) (place : List ℕ) → KeepsRun (F.told fabric.old) (F.image fabric.old cluster place) (F.told fabric.new) (F.image fabric.new cluster place) }
+    ensures run { (cluster : Shape) (place : List ℕ) → KeepsRun (F.runs fabric.old cluster place) (F.runs fabric.new cluster place) }
     ensures goes { OnOk result (F.goes fabric.old fabric.new) }
     ensures falls { F.falls fabric.old fabric.new }
 {

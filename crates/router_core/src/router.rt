@@ -68,6 +68,13 @@ impl Router {
         self.shape.chunk
     }
 
+    /// How many nodes the cluster has.
+    pub fn nodes(&self) -> u32
+        ensures { result ≡ self.now.shape.nodes }
+    {
+        self.shape.nodes
+    }
+
     /// The partition in which the next operation draws its id.
     pub fn partition(&self) -> u32
         ensures value { result ≡ self.now.begun % self.now.shape.partitions }

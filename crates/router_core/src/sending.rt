@@ -44,7 +44,7 @@ fn post<F: Fabric>(
     ensures posted { IfOk result (λ went. Posted op.old sending.now correlation node (F.told fabric.old) (F.told fabric.new) went) }
     ensures opened { F.opened fabric.new ≡ F.opened fabric.old }
     ensures later { F.faults fabric.old ≤ F.faults fabric.new }
-    ensures run { (cluster : Shape) (place : List ℕ) → KeepsRun (F.told fabric.old) (F.image fabric.old cluster place) (F.told fabric.new) (F.image fabric.new cluster place) }
+    ensures run { (cluster : Shape) (place : List ℕ) → KeepsRun (F.runs fabric.old cluster place) (F.runs fabric.new cluster place) }
     ensures goes { OnOk result (F.goes fabric.old fabric.new) }
     ensures falls { F.falls fabric.old fabric.new }
 {
@@ -120,7 +120,7 @@ impl Live {
         ensures operation { self.new.operation ≡ self.old.operation }
         ensures opened { F.opened fabric.new ≡ F.opened fabric.old }
         ensures later { F.faults fabric.old ≤ F.faults fabric.new }
-        ensures run { (cluster : Shape) (place : List ℕ) → KeepsRun (F.told fabric.old) (F.image fabric.old cluster place) (F.told fabric.new) (F.image fabric.new cluster place) }
+        ensures run { (cluster : Shape) (place : List ℕ) → KeepsRun (F.runs fabric.old cluster place) (F.runs fabric.new cluster place) }
         ensures goes { OnOk result (F.goes fabric.old fabric.new) }
         ensures falls { F.falls fabric.old fabric.new }
     {
@@ -169,7 +169,7 @@ impl Live {
         ensures operation { self.new.operation ≡ self.old.operation }
         ensures opened { F.opened fabric.new ≡ F.opened fabric.old }
         ensures later { F.faults fabric.old ≤ F.faults fabric.new }
-        ensures run { (cluster : Shape) (place : List ℕ) → KeepsRun (F.told fabric.old) (F.image fabric.old cluster place) (F.told fabric.new) (F.image fabric.new cluster place) }
+        ensures run { (cluster : Shape) (place : List ℕ) → KeepsRun (F.runs fabric.old cluster place) (F.runs fabric.new cluster place) }
         ensures goes { OnOk result (F.goes fabric.old fabric.new) }
         ensures falls { F.falls fabric.old fabric.new }
     {
@@ -196,7 +196,7 @@ impl Live {
         ensures operation { self.new.operation ≡ self.old.operation }
         ensures opened { F.opened fabric.new ≡ F.opened fabric.old }
         ensures later { F.faults fabric.old ≤ F.faults fabric.new }
-        ensures run { (cluster : Shape) (place : List ℕ) → KeepsRun (F.told fabric.old) (F.image fabric.old cluster place) (F.told fabric.new) (F.image fabric.new cluster place) }
+        ensures run { (cluster : Shape) (place : List ℕ) → KeepsRun (F.runs fabric.old cluster place) (F.runs fabric.new cluster place) }
         ensures goes { OnOk result (F.goes fabric.old fabric.new) }
         ensures falls { F.falls fabric.old fabric.new }
     {
@@ -228,7 +228,7 @@ impl Live {
         ensures operation { self.new.operation ≡ self.old.operation }
         ensures opened { F.opened fabric.new ≡ F.opened fabric.old }
         ensures later { F.faults fabric.old ≤ F.faults fabric.new }
-        ensures run { (cluster : Shape) (place : List ℕ) → KeepsRun (F.told fabric.old) (F.image fabric.old cluster place) (F.told fabric.new) (F.image fabric.new cluster place) }
+        ensures run { (cluster : Shape) (place : List ℕ) → KeepsRun (F.runs fabric.old cluster place) (F.runs fabric.new cluster place) }
         ensures goes { OnOk result (F.goes fabric.old fabric.new) }
         ensures falls { F.falls fabric.old fabric.new }
     {
@@ -265,7 +265,7 @@ impl Live {
         ensures operation { self.new.operation ≡ self.old.operation }
         ensures opened { F.opened fabric.new ≡ F.opened fabric.old }
         ensures later { F.faults fabric.old ≤ F.faults fabric.new }
-        ensures run { (cluster : Shape) (place : List ℕ) → KeepsRun (F.told fabric.old) (F.image fabric.old cluster place) (F.told fabric.new) (F.image fabric.new cluster place) }
+        ensures run { (cluster : Shape) (place : List ℕ) → KeepsRun (F.runs fabric.old cluster place) (F.runs fabric.new cluster place) }
         ensures goes { OnOk result (F.goes fabric.old fabric.new) }
         ensures falls { F.falls fabric.old fabric.new }
     {
@@ -291,7 +291,7 @@ impl Live {
         ensures operation { self.new.operation ≡ self.old.operation }
         ensures opened { F.opened fabric.new ≡ F.opened fabric.old }
         ensures later { F.faults fabric.old ≤ F.faults fabric.new }
-        ensures run { (cluster : Shape) (place : List ℕ) → KeepsRun (F.told fabric.old) (F.image fabric.old cluster place) (F.told fabric.new) (F.image fabric.new cluster place) }
+        ensures run { (cluster : Shape) (place : List ℕ) → KeepsRun (F.runs fabric.old cluster place) (F.runs fabric.new cluster place) }
         ensures goes { OnOk result (F.goes fabric.old fabric.new) }
         ensures falls { F.falls fabric.old fabric.new }
     {
@@ -317,7 +317,7 @@ impl Live {
         ensures operation { self.new.operation ≡ self.old.operation }
         ensures opened { F.opened fabric.new ≡ F.opened fabric.old }
         ensures later { F.faults fabric.old ≤ F.faults fabric.new }
-        ensures run { (cluster : Shape) (place : List ℕ) → KeepsRun (F.told fabric.old) (F.image fabric.old cluster place) (F.told fabric.new) (F.image fabric.new cluster place) }
+        ensures run { (cluster : Shape) (place : List ℕ) → KeepsRun (F.runs fabric.old cluster place) (F.runs fabric.new cluster place) }
         ensures goes { OnOk result (F.goes fabric.old fabric.new) }
         ensures falls { F.falls fabric.old fabric.new }
     {

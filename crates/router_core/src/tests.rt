@@ -10,11 +10,12 @@ use blob_id::{BlobId, Bytes, Kind, Memory};
 use quorum_op::{Cause, Outcome};
 use std::alloc::Global;
 use std::test::Fail;
-use world_model::{Event, Fabric, LogNumbers, SendFault, Shape, StartFault};
+use world_model::{Event, Fabric, LogNumbers, Order, SendFault, Shape, StartFault, Told};
 
 fn three_nodes() -> Shape
     ensures shape { IsShape result }
     ensures chunk { result.chunk ≡ 65536 }
+    ensures nodes { result.nodes ≡ 3 }
 {
     Shape {
         nodes: 3,
@@ -72,6 +73,11 @@ impl Echo {
     }
 }
 
+/// Whether an event is what a node answered.
+fn is_from(event: &Event, node: u32) -> bool {
+    matches!(event, Event::Reply { node: from, .. } if *from == node)
+}
+
 /// The frame of a reply to a request.
 fn reply_frame(alloc: Global, request: &[u8], body: &[u8]) -> Result<Bytes, Memory> {
     let mut frame = Bytes::new(alloc);
@@ -99,7 +105,9 @@ impl Fabric for Echo {
 
     ghost told = { λ f. None };
 
-    ghost image = { λ f cluster place. None };
+    ghost knows = { λ f. Unit {0} };
+
+    ghost runs = { λ f cluster place opening. Unit {0} };
 
     ghost goes = { λ f g. Unit {0} };
 
@@ -126,6 +134,18 @@ impl Fabric for Echo {
         Ok(self.events.remove(0))
     }
 
+    /// A node that stops breaks off its connection, and what it answered so far is lost. Other orders come to nothing.
+    fn admin(&mut self, order: &Order) -> Result<Told, SendFault> {
+        let Order::Stop(node) = order else {
+            return Ok(Told::Nothing);
+        };
+        self.events.retain(|event| !is_from(event, *node));
+        match self.events.push(Event::Broken { node: *node }) {
+            Ok(()) => Ok(Told::Done),
+            Err(_) => Err(SendFault::Memory),
+        }
+    }
+
     fn queued(&self) -> u32 {
         u32::try_from(self.events.len()).unwrap_or(u32::MAX)
     }
@@ -135,6 +155,8 @@ impl Fabric for Echo {
     }
 
     ghost fresh_did_nothing = { λ a calls f t. absurd (none-some calls t) };
+
+    ghost runs_by_rules = { λ a cluster place opening k r. tt };
 
     ghost goes_nowhere = { λ a. tt };
 
@@ -210,6 +232,37 @@ fn end_of_delete(alloc: Global, net: &mut Echo, shape: Shape) -> Result<Option<E
     let mut router = Router::new(shape);
     router.delete(alloc, Some(first_id()), net)?;
     Ok(router.finish(alloc, net)?)
+}
+
+/// How a put, the first operation of a new router, ends where the first node stops between its begin and its wait.
+fn end_of_put_beside_a_stop(
+    alloc: Global,
+    net: &mut Echo,
+    shape: Shape,
+) -> Result<Option<Ended>, Fail>
+    requires shape { IsShape shape }
+    requires chunk { shape.chunk ≡ 65536 }
+    requires nodes { shape.nodes ≡ 3 }
+    requires open { ⟦<Echo as Fabric>⟧.opened net.old ≡ Some shape }
+{
+    let mut router = Router::new(shape);
+    let body = a_blob(alloc)?;
+    router.put(alloc, first_id(), body, net)?;
+    router.order(alloc, &Order::Stop(1), net)?;
+    Ok(router.finish(alloc, net)?)
+}
+
+/// A new router with a get under way, whose first node stopped then.
+fn get_beside_a_stop(alloc: Global, net: &mut Echo, shape: Shape) -> Result<Router, Fail>
+    requires shape { IsShape shape }
+    requires nodes { shape.nodes ≡ 3 }
+    requires open { ⟦<Echo as Fabric>⟧.opened net.old ≡ Some shape }
+    ensures open { IfOk result (λ router. ⟦<Echo as Fabric>⟧.opened net.new ≡ Some router.shape) }
+{
+    let mut router = Router::new(shape);
+    router.get(alloc, Some(first_id()), net)?;
+    router.order(alloc, &Order::Stop(1), net)?;
+    Ok(router)
 }
 
 /// How a put that is too long, the first operation of a new router, ends.
@@ -296,6 +349,29 @@ fn a_put_that_fails_gives_its_id_up(rt: HostRuntime) -> Result<(), Fail> {
         Said::Unavailable(first_id(), &[(1, Cause::Full), (2, Cause::Full)])
     );
     assert_eq!(rt; net.sent, 6);
+    Ok(())
+}
+
+#[test]
+fn a_put_goes_on_beside_an_order(rt: HostRuntime) -> Result<(), Fail> {
+    let shape = three_nodes();
+    let mut net = opened(rt.alloc(), shape)?;
+    let ended = end_of_put_beside_a_stop(rt.alloc(), &mut net, shape)?;
+    assert_eq!(rt; words_of(&ended), Said::Put(first_id()));
+    assert_eq!(rt; net.sent, 3);
+    Ok(())
+}
+
+/// An order takes the events that are queued, which end the first node's request, so a third replica is asked.
+#[test]
+fn a_get_asks_another_replica_where_a_node_stops(rt: HostRuntime) -> Result<(), Fail> {
+    let shape = three_nodes();
+    let mut net = opened(rt.alloc(), shape)?;
+    let mut router = get_beside_a_stop(rt.alloc(), &mut net, shape)?;
+    assert_eq!(rt; net.sent, 3);
+    assert_eq!(rt; net.events.len(), 0);
+    let ended = router.finish(rt.alloc(), &mut net)?;
+    assert_eq!(rt; words_of(&ended), Said::Bytes(b"a blob"));
     Ok(())
 }
 

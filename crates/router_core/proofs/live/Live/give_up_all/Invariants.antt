@@ -18,6 +18,6 @@ invariant-loop-sending g l =
       ties : (outcome : Outcome) (clock events begun : ℕ) (marks : List HistoryMark) → Ties (At (λ r. GivesAllUp l.shape r l.initial.self outcome l.batch) clock events begun) (g.F.Fabric.told l.initial.fabric) marks
           → Ties (At (λ r. GivesAllUp l.shape r l.self outcome (drop l.sending-index l.batch)) clock events begun) (g.F.Fabric.told l.fabric) marks;
       later : g.F.Fabric.faults l.initial.fabric ≤ g.F.Fabric.faults l.fabric;
-      run : (cluster : Shape) (place : List ℕ) → KeepsRun (g.F.Fabric.told l.initial.fabric) (g.F.Fabric.image l.initial.fabric cluster place) (g.F.Fabric.told l.fabric) (g.F.Fabric.image l.fabric cluster place);
+      run : (cluster : Shape) (place : List ℕ) → KeepsRun (g.F.Fabric.runs l.initial.fabric cluster place) (g.F.Fabric.runs l.fabric cluster place);
       goes : g.F.Fabric.goes l.initial.fabric l.fabric;
     }

@@ -17,6 +17,6 @@ invariant-loop-sending g l =
       ties : (begun : ℕ) (marks : List HistoryMark) → Ties (At (λ r. OwnsLive l.shape r l.initial.self l.batch) l.clock l.events begun) (g.F.Fabric.told l.initial.fabric) marks
           → Ties (At (λ r. OwnsLive l.shape r l.self (drop l.sending-index l.batch)) l.clock l.events begun) (g.F.Fabric.told l.fabric) marks;
       later : g.F.Fabric.faults l.initial.fabric ≤ g.F.Fabric.faults l.fabric;
-      run : (cluster : Shape) (place : List ℕ) → KeepsRun (g.F.Fabric.told l.initial.fabric) (g.F.Fabric.image l.initial.fabric cluster place) (g.F.Fabric.told l.fabric) (g.F.Fabric.image l.fabric cluster place);
+      run : (cluster : Shape) (place : List ℕ) → KeepsRun (g.F.Fabric.runs l.initial.fabric cluster place) (g.F.Fabric.runs l.fabric cluster place);
       goes : g.F.Fabric.goes l.initial.fabric l.fabric;
     }

@@ -15,7 +15,7 @@ invariant-turning g l = record {
   shape : l.self.shape ≡ l.fn.self.shape;
   opened : g.F.Fabric.opened l.fabric ≡ g.F.Fabric.opened l.fn.fabric;
   later : g.F.Fabric.faults l.fn.fabric ≤ g.F.Fabric.faults l.fabric;
-  run : (cluster : Shape) (place : List ℕ) → KeepsRun (g.F.Fabric.told l.fn.fabric) (g.F.Fabric.image l.fn.fabric cluster place) (g.F.Fabric.told l.fabric) (g.F.Fabric.image l.fabric cluster place);
+  run : (cluster : Shape) (place : List ℕ) → KeepsRun (g.F.Fabric.runs l.fn.fabric cluster place) (g.F.Fabric.runs l.fabric cluster place);
   goes : g.F.Fabric.goes l.fn.fabric l.fabric;
   falls : g.F.Fabric.falls l.fn.fabric l.fabric;
 }

@@ -1,0 +1,25 @@
+use Rattle.std.proofs.Common.{◌≡◌, ◌-◌, ◌^◌, ◌≤◌, ℕ, List}
+use Rattle.world_model.specs.declared.history.HistoryMark.{HistoryMark}
+use Rattle.world_model.specs.declared.shape.Shape.{Shape}
+use Rattle.world_model.specs.Fabric.{KeepsRun}
+use Rattle.router_core.specs.Stands.{Stands, is_idle}
+use Rattle.router_core.specs.Ties.{Ties}
+use Rattle.router_core.proofs.router.Router.take_queued.Given as goal
+
+-- what the turns so far came to
+abbrev pub invariant-taking : goal.invariant-taking
+invariant-taking g l = record {
+  ties : (marks : List HistoryMark) → Ties (Stands l.fn.self) (g.F.Fabric.told l.fn.fabric) marks → Ties (Stands l.self) (g.F.Fabric.told l.fabric) marks;
+  idle : is_idle l.self.stage ≡ is_idle l.fn.self.stage;
+  begun : l.self.begun ≡ l.fn.self.begun;
+  shape : l.self.shape ≡ l.fn.self.shape;
+  opened : g.F.Fabric.opened l.fabric ≡ g.F.Fabric.opened l.fn.fabric;
+  later : g.F.Fabric.faults l.fn.fabric ≤ g.F.Fabric.faults l.fabric;
+  run : (cluster : Shape) (place : List ℕ) → KeepsRun (g.F.Fabric.runs l.fn.fabric cluster place) (g.F.Fabric.runs l.fabric cluster place);
+  goes : g.F.Fabric.goes l.fn.fabric l.fabric;
+  falls : g.F.Fabric.falls l.fn.fabric l.fabric;
+}
+
+-- each turn takes an event, and a router counts fewer than 2 ^ 64 of them
+abbrev pub decreases-taking : goal.decreases-taking
+decreases-taking g l = 2 ^ 64 - l.self.events
