@@ -7,7 +7,7 @@ use Rattle.cell_model.specs.declared.ask.Reply.{Reply}
 use Rattle.req_frame.specs.declared.frame.Frame.{Frame}
 use Rattle.mem_fabric.specs.declared.flight.Asked.{Asked}
 use Rattle.mem_fabric.specs.Asking.{AsksNothing}
-use Rattle.mem_fabric.specs.Network.{Network, Moved, place_among, moved, runs, asked_in, asked_by, asked_of, answered, quiet, taken, ticked, dropped, dropped_reply, handed, after_move, MayGive, Makes, Does}
+use Rattle.mem_fabric.specs.Network.{Network, Moved, place_among, moved, runs, asked_in, asked_by, asked_of, answered, quiet, taken, ticked, dropped, dropped_reply, handed, stops, after_move, MayGive, Makes, Does}
 use Rattle.mem_fabric.specs.Sound.{State, IsSound, IsSent, told_world, network_of, asked_number, replied_number, RunsRequest}
 use Rattle.world_model.specs.declared.moves.Move.{Move}
 use Rattle.world_model.specs.declared.moves.Move.TheVariants as moves
@@ -88,6 +88,11 @@ hand_again_does s s' place k (Ok event) e gave network err =
     let p = replies_place s k place e in
     record { reply = Reply.Memory; may = tt; gave = subst (λ p. (handed (network_of s) p true).event ≡ event) p gave; network = subst (λ p. network_of s' ≡ after_move (network_of s) (handed (network_of s) p true)) p network }
 hand_again_does s s' place k (Err memory) e gave network err = ap network_of err
+
+pub stop_does : (s s' : State) (node : ℕ) (result : Result Event Memory) → IfOk result (λ event. (stops (network_of s) node).event ≡ event)
+    → OnOk result (network_of s' ≡ after_move (network_of s) (stops (network_of s) node)) → OnErr result (s' ≡ s) → Does (network_of s) (moves.Stop node) (network_of s') result
+stop_does s s' node (Ok event) gave network err = record { reply = Reply.Memory; may = tt; gave = gave; network = network }
+stop_does s s' node (Err memory) gave network err = ap network_of err
 
 -- a move that gives what it is by another move
 pub makes : (s s' : State) (chosen : Move) (m : Moved) (event : Event) → runs (network_of s) chosen ≡ None → moved (network_of s) Reply.Memory chosen ≡ m → m.event ≡ event → network_of s' ≡ after_move (network_of s) m

@@ -3,6 +3,7 @@ pub mod Places
 pub mod Askings
 pub mod Worlds
 pub mod Sounds
+pub mod Stops
 pub mod Acts
 pub mod Playing
 pub mod TestLemmas

@@ -1,23 +1,29 @@
 -- What a call does, as acts, and what acts from the beginning say of the calls told.
-use Rattle.std.proofs.Common.{◌≡◌, ℕ, zero, suc, nat_lt, Bool, true, false, cond, List, [], ◌∷◌, ◌++◌, length, Option, Some, None, Result, Ok, Err, refl, sym, ap, ◌∙◌, subst, append-nil}
+use Rattle.std.proofs.Common.{◌≡◌, ℕ, zero, suc, nat_lt, ◌==◌, Bool, true, false, ◌&&◌, ◌||◌, not, cond, List, [], ◌∷◌, ◌++◌, length, Option, Some, None, Result, Ok, Err, refl, sym, ap, ◌∙◌, subst, append-nil}
 use Rattle.std.specs.Prelude.{IsSome, OnOk, OnErr}
 use Rattle.blob_id.specs.declared.id.BlobId.{BlobId}
 use Rattle.cell_model.specs.declared.cell.Cell.TheVariants.{Absent}
 use Rattle.blob_id.specs.declared.memory.Memory.{Memory}
-use Rattle.mem_fabric.specs.Network.{Network, nothing, nothing_held, after_open, after_send, Does}
+use Rattle.mem_fabric.specs.Network.{Network, nothing, nothing_held, is_stopped, after_open, after_steps, after_send, after_sent, after_order, answer_to, after_given, IsOldest, Does, Obeys}
 use Rattle.mem_fabric.specs.Slots.{cell_held}
 use Rattle.mem_fabric.specs.Standing.{none_standing, cells_of}
-use Rattle.mem_fabric.specs.Past.{calls_of}
-use Rattle.mem_fabric.specs.Played.{Act, Opens, Sends, Moves, Fails, acted, all_acted, MayAct, AllMay, moves_of, Plays, Falls, AtMostOne, IsPlayed}
+use Rattle.mem_fabric.specs.Past.{calls_of, order_steps}
+use Rattle.mem_fabric.specs.Played.{Act, Opens, Sends, Orders, Gives, Moves, Fails, acted, all_acted, MayAct, AllMay, moves_of, Plays, Falls, AtMostOne, IsPlayed}
 use Rattle.mem_fabric.specs.PlayedLaws.{plays_on}
-use Rattle.mem_fabric.specs.Sound.{State, IsSound, fresh_state, network_of, image_of}
+use Rattle.mem_fabric.specs.Sound.{State, AllShow, IsSound, RunsFrom, fresh_state, network_of, told_world}
 use Rattle.mem_fabric.proofs.Worlds.{waits_alike}
 use Rattle.world_model.specs.declared.moves.Move.{Move}
+use Rattle.world_model.specs.declared.order.Order.{Order}
+use Rattle.world_model.specs.declared.order.Told.{Told}
 use Rattle.world_model.specs.declared.shape.Shape.{Shape}
 use Rattle.world_model.specs.declared.step.Called.{Called}
 use Rattle.world_model.specs.declared.step.Event.{Event}
-use Rattle.world_model.specs.Fabric.{HasNode, Awaits, RunsTo}
-use Rattle.world_model.specs.Told.{told}
+use Rattle.world_model.specs.declared.step.Step.{Step}
+use Rattle.world_model.specs.Fabric.{HasNode, Awaits, TakesOrder, TellsOrder}
+use Rattle.world_model.specs.Orders.{is_stopped as is_stopped_by, ComesTo}
+use Rattle.world_model.specs.Record.{Marked, Drawn, Aimed, Took, Given, Withheld, Decided, Record}
+use Rattle.world_model.specs.Told.{told, AllNetwork}
+use Rattle.world_model.specs.World.{Made, world}
 
 pub plays_open : (given : List Move) (s s' : State) (shape : Shape) → s ≡ fresh_state → network_of s' ≡ after_open (network_of s) shape → Plays given (network_of s) given (network_of s')
 plays_open given s s' shape fresh e = (Opens shape ∷ [], tt, record { moves = sym (append-nil given); may = (tt, ap network_of fresh); network = e })
@@ -33,13 +39,99 @@ pub has_shape : (opened : Bool) (shape : Option Shape) → IsSome (cond opened s
 has_shape true shape h = h
 has_shape false shape h = absurd cc
 
-pub plays_next : (given given' : List Move) (n n' : Network) (chosen : Move) (result : Result Event Memory) (S : Type 0) → IsSome n.shape → Does n chosen n' result → given' ≡ given ++ chosen ∷ [] → S → OnOk result (Plays given n given' n' × S)
-plays_next given given' n n' chosen (Ok event) S some m e same = ((Moves chosen m.reply ∷ [], tt, record { moves = e; may = (tt, (some, m.may)); network = m.network }), same)
-plays_next given given' n n' chosen (Err memory) S some m e same = tt
+pub has_order : (opened : Bool) (shape : Option Shape) (order : Order) → TakesOrder (cond opened shape None) order → TakesOrder shape order
+has_order true shape order h = h
+has_order false shape (Order.Stop node) h = absurd h
+has_order false shape (Order.Restart node) h = absurd h
+has_order false shape (Order.Pull a b p) h = absurd h
+has_order false shape (Order.Compact a p) h = absurd h
+has_order false shape (Order.Level p a b) h = absurd h
 
-pub falls_next : (given given' : List Move) (n n' : Network) (chosen : Move) (result : Result Event Memory) → IsSome n.shape → Does n chosen n' result → given' ≡ given ++ chosen ∷ [] → Falls given n given' n'
-falls_next given given' n n' chosen (Ok event) some m e = (Moves chosen m.reply ∷ [], record { moves = e; may = (tt, (some, m.may)); network = m.network })
-falls_next given given' n n' chosen (Err memory) some m e = (Fails (Some chosen) ∷ [], record { moves = e; may = (tt, tt); network = m })
+pub plays_order : (given : List Move) (n n' : Network) (order : Order) (answer : Told) → TakesOrder n.shape order → Obeys n order answer n' → Plays given n given n'
+plays_order given n n' order answer takes obeys =
+    (Orders order answer ∷ [], tt, record { moves = sym (append-nil given); may = (tt, (takes, obeys.answer_is)); network = obeys.network })
+
+-- ---- what an order tells
+
+-- whether a node is stopped in the world is a matter of the steps that led there
+stopped_in : (items : Record) (node : ℕ) → (world nothing_held items).stopped node ≡ is_stopped_by node items
+stopped_in [] node = refl
+stopped_in (Took (Step.Stop other) ∷ before) node = ap (λ b. (node == other) || b) (stopped_in before node)
+stopped_in (Took (Step.Restart other done) ∷ before) node = ap (λ b. not (node == other) && b) (stopped_in before node)
+stopped_in (Took (Step.Send from to frame) ∷ before) node = stopped_in before node
+stopped_in (Took (Step.Refused to frame) ∷ before) node = stopped_in before node
+stopped_in (Took (Step.Exec send reply) ∷ before) node = stopped_in before node
+stopped_in (Took (Step.Torn send) ∷ before) node = stopped_in before node
+stopped_in (Took (Step.Hand reply) ∷ before) node = stopped_in before node
+stopped_in (Took (Step.Now ms) ∷ before) node = stopped_in before node
+stopped_in (Took (Step.Cut other) ∷ before) node = stopped_in before node
+stopped_in (Took (Step.Merge n p r place torn) ∷ before) node = stopped_in before node
+stopped_in (Took (Step.Compact n p r) ∷ before) node = stopped_in before node
+stopped_in (Marked mark ∷ before) node = stopped_in before node
+stopped_in (Drawn operation part attempt id blob ∷ before) node = stopped_in before node
+stopped_in (Aimed correlation part attempt ∷ before) node = stopped_in before node
+stopped_in (Given event ∷ before) node = stopped_in before node
+stopped_in (Withheld other frame ∷ before) node = stopped_in before node
+stopped_in (Decided operation outcome ∷ before) node = stopped_in before node
+
+-- by the steps of an order it came to its answer
+comes_to : (n : Network) (order : Order) → TakesOrder n.shape order → ComesTo order (answer_to n order) (order_steps order (answer_to n order)) (told n.calls)
+comes_to n (Order.Stop node) takes = go (is_stopped n node) (sym (stopped_in (told n.calls) node))
+  where
+    go : (b : Bool) → is_stopped_by node (told n.calls) ≡ b → ComesTo (Order.Stop node) (cond b Told.Already Told.Done) (order_steps (Order.Stop node) (cond b Told.Already Told.Done)) (told n.calls)
+    go true e = (refl, e)
+    go false e = (refl, e)
+comes_to n (Order.Restart node) takes = go (is_stopped n node) (sym (stopped_in (told n.calls) node))
+  where
+    go : (b : Bool) → is_stopped_by node (told n.calls) ≡ b → ComesTo (Order.Restart node) (cond b Told.Done Told.Already) (order_steps (Order.Restart node) (cond b Told.Done Told.Already)) (told n.calls)
+    go true e = (([], refl), e)
+    go false e = (refl, e)
+comes_to n (Order.Pull a b p) takes = absurd takes
+comes_to n (Order.Compact a p) takes = absurd takes
+comes_to n (Order.Level p a b) takes = absurd takes
+
+-- an order tells its steps, as one call
+calls_on : (n : Network) (order : Order) → TakesOrder n.shape order → (after_order n order (answer_to n order)).calls ≡ record { steps = order_steps order (answer_to n order); given = None } ∷ n.calls
+calls_on n (Order.Stop node) takes = go (is_stopped n node)
+  where
+    go : (b : Bool) → (after_order n (Order.Stop node) (cond b Told.Already Told.Done)).calls ≡ record { steps = order_steps (Order.Stop node) (cond b Told.Already Told.Done); given = None } ∷ n.calls
+    go true = refl
+    go false = refl
+calls_on n (Order.Restart node) takes = go (is_stopped n node)
+  where
+    go : (b : Bool) → (after_order n (Order.Restart node) (cond b Told.Done Told.Already)).calls ≡ record { steps = order_steps (Order.Restart node) (cond b Told.Done Told.Already); given = None } ∷ n.calls
+    go true = refl
+    go false = refl
+calls_on n (Order.Pull a b p) takes = absurd takes
+calls_on n (Order.Compact a p) takes = absurd takes
+calls_on n (Order.Level p a b) takes = absurd takes
+
+network_steps : (order : Order) (answer : Told) → AllNetwork (order_steps order answer)
+network_steps (Order.Stop node) Told.Done = (refl, tt)
+network_steps (Order.Restart node) Told.Done = (refl, tt)
+network_steps _ _ = tt
+
+pub tells_order : (s s' : State) (order : Order) (answer : Told) → TakesOrder s.shape order → Obeys (network_of s) order answer (network_of s') → TellsOrder (Ok answer) (Some (calls_of s.past)) (Some (calls_of s'.past)) order
+tells_order s s' order answer takes obeys =
+    let n : Network = network_of s in
+    let by : after_order n order answer ≡ after_order n order (answer_to n order) = ap (λ a. after_order n order a) obeys.answer_is in
+    let calls : calls_of s'.past ≡ record { steps = order_steps order (answer_to n order); given = None } ∷ calls_of s.past = ap (λ (m : Network). m.calls) (obeys.network ∙ by) ∙ calls_on n order takes in
+    subst (λ a. TellsOrder (Ok a) (Some (calls_of s.past)) (Some (calls_of s'.past)) order) (sym obeys.answer_is)
+    (record { steps = order_steps order (answer_to n order); given = None }, record { network = network_steps order (answer_to n order); none = refl; comes = comes_to n order takes }, ap (λ l. Some l) calls)
+
+-- ---- events that waited, and moves
+
+pub plays_given : (given : List Move) (n n' : Network) (event : Event) → IsOldest n.queue event → n' ≡ after_given n event → Plays given n given n'
+plays_given given n n' event oldest e = (Gives event ∷ [], tt, record { moves = sym (append-nil given); may = (tt, oldest); network = e })
+
+pub plays_next : (given given' : List Move) (n n' : Network) (chosen : Move) (result : Result Event Memory) (S T : Type 0) → IsSome n.shape → n.queue ≡ [] → Does n chosen n' result → given' ≡ given ++ chosen ∷ [] → S → T
+    → OnOk result (Plays given n given' n' × S × T)
+plays_next given given' n n' chosen (Ok event) S T some calm m e same seeds = ((Moves chosen m.reply ∷ [], tt, record { moves = e; may = (tt, (some, calm, m.may)); network = m.network }), same, seeds)
+plays_next given given' n n' chosen (Err memory) S T some calm m e same seeds = tt
+
+pub falls_next : (given given' : List Move) (n n' : Network) (chosen : Move) (result : Result Event Memory) → IsSome n.shape → n.queue ≡ [] → Does n chosen n' result → given' ≡ given ++ chosen ∷ [] → Falls given n given' n'
+falls_next given given' n n' chosen (Ok event) some calm m e = (Moves chosen m.reply ∷ [], record { moves = e; may = (tt, (some, calm, m.may)); network = m.network })
+falls_next given given' n n' chosen (Err memory) some calm m e = (Fails (Some chosen) ∷ [], record { moves = e; may = (tt, tt); network = m })
 
 pub most_next : (given given' : List Move) (chosen : Move) (result : Result Event Memory) → given' ≡ given ++ chosen ∷ [] → OnErr result (AtMostOne given given')
 most_next given given' chosen (Ok event) e = tt
@@ -49,8 +141,8 @@ pub most_none : (given given' : List Move) → given' ≡ given → AtMostOne gi
 most_none given given' e = (None, e ∙ sym (append-nil given))
 
 -- what was never opened holds nothing
-pub fresh_runs : (s : State) → s ≡ fresh_state → RunsTo nothing_held (Some (calls_of s.past)) (Some (image_of s))
-fresh_runs s e = subst (λ (x : State). RunsTo nothing_held (Some (calls_of x.past)) (Some (image_of x))) (sym e) (record {
+pub fresh_runs : (s : State) → s ≡ fresh_state → RunsFrom s nothing_held
+fresh_runs s e = subst (λ (x : State). RunsFrom x nothing_held) (sym e) (record {
   run = tt;
   reached = record { cells = held; doubts = λ n p. refl; stopped = λ n. refl };
 })
@@ -63,16 +155,33 @@ fresh_runs s e = subst (λ (x : State). RunsTo nothing_held (Some (calls_of x.pa
         none true = refl
         none false = refl
 
--- each event was given at once
-pub none_waits : (s : State) → IsSound s → Awaits (Some (calls_of s.past)) 0
-none_waits s sound = λ opening run. sym (ap length (waits_alike opening (told (calls_of s.past)) ∙ sound.state.given))
+-- what waits in the world is queued
+as_many : (waiting : List Made) (queue : List Event) → AllShow waiting queue → length queue ≡ length waiting
+as_many [] [] shown = refl
+as_many [] (event ∷ queue) shown = absurd shown
+as_many (made ∷ rest) [] shown = absurd shown
+as_many (made ∷ rest) (event ∷ queue) shown = ap suc (as_many rest queue shown.1)
+
+pub all_wait : (s : State) → IsSound s → Awaits (Some (calls_of s.past)) (length s.queue)
+all_wait s sound = λ opening run. as_many (told_world s.past).waiting s.queue sound.state.waits ∙ sym (ap length (waits_alike opening (told (calls_of s.past))))
 
 -- ---- from the beginning
 
 -- the shape stays
 keeps_shape : (n : Network) (act : Act) (shape : Shape) → MayAct n act → n.shape ≡ Some shape → (acted n act).shape ≡ Some shape
 keeps_shape n (Opens other) shape may e = absurd (let none : n.shape ≡ None = ap (λ (m : Network). m.shape) may in cc)
-keeps_shape n (Sends node frame) shape may e = e
+keeps_shape n (Sends node frame) shape may e = sent_shape (is_stopped n node)
+  where
+    sent_shape : (b : Bool) → (cond b (after_steps n (Step.Refused node frame ∷ [])) (after_sent n node frame)).shape ≡ Some shape
+    sent_shape true = e
+    sent_shape false = e
+keeps_shape n (Orders order answer) shape may e = ordered_shape order answer
+  where
+    ordered_shape : (order : Order) (answer : Told) → (after_order n order answer).shape ≡ Some shape
+    ordered_shape (Order.Stop node) Told.Done = e
+    ordered_shape (Order.Restart node) Told.Done = e
+    ordered_shape _ _ = e
+keeps_shape n (Gives event) shape may e = e
 keeps_shape n (Moves chosen reply) shape may e = e
 keeps_shape n (Fails chosen) shape may e = e
 
@@ -86,9 +195,9 @@ opened_shape false shape found e = absurd cc
 
 -- what was opened for a shape and went on was played for it, with the moves that were given
 pub played : (a b c : List Move) (s t u : State) (opened : Bool) (shape : Shape) (calls : List Called) → s ≡ fresh_state
-    → Plays a (network_of s) b (network_of t) → cond opened t.shape None ≡ Some shape → Plays b (network_of t) c (network_of u) → Some (calls_of u.past) ≡ Some calls
-    → (moves : List Move) × (c ≡ a ++ moves) × IsPlayed shape moves calls
-played a b c s t u opened shape calls fresh p opening q told_is =
+    → Plays a (network_of s) b (network_of t) → cond opened t.shape None ≡ Some shape → Plays b (network_of t) c (network_of u) → Some (calls_of u.past) ≡ Some calls → (T : Type 0) → T
+    → (moves : List Move) × (c ≡ a ++ moves) × IsPlayed shape moves calls × T
+played a b c s t u opened shape calls fresh p opening q told_is T seeds =
     let whole : Plays a (network_of s) c (network_of u) = plays_on a (network_of s) b (network_of t) c (network_of u) p q in
     let from : network_of s ≡ nothing = ap network_of fresh in
     let may : AllMay nothing whole.0 = subst (λ (n : Network). AllMay n whole.0) from whole.2.may in
@@ -106,4 +215,5 @@ played a b c s t u opened shape calls fresh p opening q told_is =
         opened = ap (λ (n : Network). n.shape) (sym there) ∙ later;
         told = same ∙ ap (λ (n : Network). n.calls) there;
       },
+      seeds,
     )

@@ -19,20 +19,21 @@ use Rattle.mem_fabric.specs.declared.asking.Question.{Question}
 use Rattle.mem_fabric.specs.declared.flight.Asked.{Asked}
 use Rattle.mem_fabric.specs.declared.flight.Replied.{Replied}
 use Rattle.mem_fabric.specs.declared.past.Past.{Past}
-use Rattle.mem_fabric.specs.Network.{Network, Moved, nothing_held, world_of, taken, ticked, quiet, is_to, is_by, requests_elsewhere, replies_elsewhere, broken, handed, reply_event, after_move, after_send, asked_of, asked_by, answered, ran, stands, MayAnswer, MayGive}
+use Rattle.mem_fabric.specs.Network.{Network, Moved, nothing_held, world_of, taken, ticked, quiet, is_to, is_by, requests_elsewhere, replies_elsewhere, broken, handed, reply_event, after_move, after_steps, after_send, after_sent, is_stopped, asked_of, asked_by, answered, ran, stands, MayAnswer, MayGive}
 use Rattle.mem_fabric.specs.Past.{calls_of}
+use Rattle.mem_fabric.specs.Runs.{IsImageOf, LeadsTo}
 use Rattle.mem_fabric.specs.Slots.{Standing}
 use Rattle.mem_fabric.specs.Standing.{stands_at, cells_of, IsAsked}
-use Rattle.mem_fabric.specs.Sound.{State, told_world, IsSent, IsGiven, IsStateOf, IsSound, network_of, image_of, KeepsState, asked_number, replied_number, RunsRequest, QuestionAt, AskedAs}
-use Rattle.mem_fabric.proofs.Worlds.{goes_to, AllowedOn, world_on, keeps_run, after_quiet, after_now, after_cut, after_sent, after_handed, after_ran}
+use Rattle.mem_fabric.specs.Sound.{State, told_world, IsSent, IsGiven, is_among, AllShow, IsStateOf, IsSound, network_of, image_of, RunsFrom, KeepsState, asked_number, replied_number, RunsRequest, QuestionAt, AskedAs}
+use Rattle.mem_fabric.proofs.Worlds.{goes_to, AllowedOn, world_on, keeps_run, after_quiet, after_now, after_cut, after_request, after_handed, after_ran}
 use Rattle.world_model.specs.declared.step.Called.{Called}
 use Rattle.world_model.specs.declared.step.Event.{Event}
 use Rattle.world_model.specs.declared.step.Step.{Step}
-use Rattle.world_model.specs.Fabric.{IsImageOf, KeepsRun}
+use Rattle.world_model.specs.Fabric.{KeepsRun}
 use Rattle.world_model.specs.Frames.{frame_in}
 use Rattle.world_model.specs.Lists.{numbered}
 use Rattle.world_model.specs.Told.{items_of, told}
-use Rattle.world_model.specs.World.{Cells, World, Request, Answered, Call, Reply_made, Broken_made, Now_made, made_by, Shows, IsNext, world, call_from, call_of, call_at, arriving_call, MayReply, MayRun}
+use Rattle.world_model.specs.World.{Cells, World, Request, Answered, Call, Reply_made, Broken_made, Now_made, Made, made_by, Shows, IsNext, world, call_from, call_of, call_at, arriving_call, MayReply, MayRun}
 use Rattle.world_model.proofs.CellLaws.{same_number, number_true}
 use Rattle.world_model.proofs.NoteLaws.{decoded_frame}
 
@@ -65,7 +66,7 @@ pub length-taken : {A : Type 0} (xs : List A) (i : ℕ) (stays : Bool) → i < l
 length-taken xs i true l = omega arith
 length-taken xs i false l = omega (arith, length-remove xs i l)
 
-length-filtered : {A : Type 0} (test : A → Bool) (xs : List A) → length (filter test xs) ≤ length xs
+pub length-filtered : {A : Type 0} (test : A → Bool) (xs : List A) → length (filter test xs) ≤ length xs
 length-filtered test xs = omega (arith, length-filter test xs, count_by-le-length test xs)
 
 map-take : {A B : Type 0} (f : A → B) (n : ℕ) (xs : List A) → map f (take n xs) ≡ take n (map f xs)
@@ -89,13 +90,22 @@ pub world_by : (past before : Past) (call : Called) (w : World) → calls_of pas
 world_by past before call w told_is is = ap (λ (calls : List Called). world nothing_held (told calls)) told_is ∙ world_on nothing_held (items_of call) (told (calls_of before)) ∙ is
 
 pub image_is : (s : State) → IsStateOf (told_world s.past) s → IsImageOf (image_of s) (told_world s.past)
-image_is s is = record { cells = is.cells; doubts = λ n p. sym (is.sure n p); stopped = λ n. sym (is.running n) }
+image_is s is = record { cells = is.cells; doubts = λ n p. sym (is.sure n p); stopped = λ n. sym (is.stopped n) }
 
 pub keeps : (s s' : State) (call : Called) → IsSound s → IsSound s' → calls_of s'.past ≡ call ∷ calls_of s.past → AllowedOn (told_world s.past) (items_of call) → KeepsState s s'
 keeps s s' call sound sound' told_is allowed =
-    subst (λ (calls : List Called). KeepsRun (Some (calls_of s.past)) (Some (image_of s)) (Some calls) (Some (image_of s'))) (sym told_is)
+    subst (λ (calls : List Called). KeepsRun (RunsFrom s) (λ opening. LeadsTo opening calls (image_of s'))) (sym told_is)
     (keeps_run (calls_of s.past) (image_of s) call (image_of s') (image_is s sound.state) allowed
     (subst (λ (calls : List Called). IsImageOf (image_of s') (world nothing_held (told calls))) told_is (image_is s' sound'.state)))
+
+-- where no event waits in the state, none waits in the world
+nothing_shown : (waiting : List Made) (queue : List Event) → AllShow waiting queue → queue ≡ [] → waiting ≡ []
+nothing_shown [] queue shown e = refl
+nothing_shown (made ∷ rest) [] shown e = absurd shown
+nothing_shown (made ∷ rest) (event ∷ queue) shown e = absurd cc
+
+pub none_waits : (s : State) → IsSound s → s.queue ≡ [] → (told_world s.past).waiting ≡ []
+none_waits s sound calm = nothing_shown (told_world s.past).waiting s.queue sound.state.waits calm
 
 -- a state after one more call that made a move
 pub record Steps (s s' : State) (m : Moved) : Type 0 where
@@ -105,36 +115,40 @@ pub record Steps (s s' : State) (m : Moved) : Type 0 where
 
 -- ---- the clock
 
-pub steps_now : (s : State) (ms moment : ℕ) (past : Past) → IsSound s → s.clock < 2 ^ 64 → moment ≡ min (s.clock + ms) (2 ^ 64 - 1)
+pub steps_now : (s : State) (ms moment : ℕ) (past : Past) → IsSound s → s.queue ≡ [] → s.clock < 2 ^ 64 → moment ≡ min (s.clock + ms) (2 ^ 64 - 1)
     → calls_of past ≡ record { steps = Step.Now moment ∷ []; given = Some (Event.Now moment) } ∷ calls_of s.past
     → Steps s (record s { clock = moment; past = past }) (ticked (network_of s) ms)
-steps_now s ms moment past sound small moment_is told_is =
+steps_now s ms moment past sound calm small moment_is told_is =
     let w : World = told_world s.past in
     let st = sound.state in
     let s' : State = record s { clock = moment; past = past } in
-    let there : told_world past ≡ record w { clock = moment } = world_by past s.past _ _ told_is (after_now w moment st.given) in
+    let none : w.waiting ≡ [] = none_waits s sound calm in
+    let there : told_world past ≡ record w { clock = moment } = world_by past s.past _ _ told_is (after_now w moment none) in
     let state : IsStateOf (record w { clock = moment }) s' = record {
       cells = st.cells;
       sure = st.sure;
-      running = st.running;
-      given = st.given;
+      stopped = st.stopped;
+      waits = st.waits;
       clock = refl;
       sent = st.sent;
       answered = st.answered;
       requests = st.requests;
+      running = st.running;
       replies = st.replies;
+      answering = st.answering;
     } in
     let sound' : IsSound s' = record {
       state = subst (λ (v : World). IsStateOf v s') (sym there) state;
       few_requests = sound.few_requests;
       few_replies = sound.few_replies;
+      few_events = sound.few_events;
       small_sent = sound.small_sent;
       small_answered = sound.small_answered;
       shape = sound.shape;
       standing = sound.standing;
     } in
     let later : w.clock ≤ moment = omega (arith, st.clock, moment_is) in
-    let next : IsNext (w.waiting ++ Now_made moment ∷ []) (Event.Now moment) = subst (λ l. IsNext (l ++ Now_made moment ∷ []) (Event.Now moment)) (sym st.given) refl in
+    let next : IsNext (w.waiting ++ Now_made moment ∷ []) (Event.Now moment) = subst (λ l. IsNext (l ++ Now_made moment ∷ []) (Event.Now moment)) (sym none) refl in
     let clock_is : moment ≡ min (w.clock + ms) (2 ^ 64 - 1) = moment_is ∙ ap (λ c. min (c + ms) (2 ^ 64 - 1)) (sym st.clock) in
     record {
       sound = sound';
@@ -148,11 +162,11 @@ steps_now s ms moment past sound small moment_is told_is =
 steps_less : (s : State) (steps : List Step) (event : Event) (requests : List Asked) (replies : List Replied) (past : Past) → IsSound s
     → goes_to (told_world s.past) (items_of (record { steps = steps; given = Some event })) ≡ told_world s.past
     → AllowedOn (told_world s.past) (items_of (record { steps = steps; given = Some event }))
-    → All (IsSent (told_world s.past).sent) requests → length requests ≤ length s.requests
-    → All (IsGiven (told_world s.past).replies) replies → length replies ≤ length s.replies
+    → All (IsSent (told_world s.past).sent) requests → All (λ asked. is_among s.stopped asked.node ≡ false) requests → length requests ≤ length s.requests
+    → All (IsGiven (told_world s.past).replies) replies → All (λ replied. is_among s.stopped replied.node ≡ false) replies → length replies ≤ length s.replies
     → calls_of past ≡ record { steps = steps; given = Some event } ∷ calls_of s.past
     → Steps s (record s { requests = requests; replies = replies; past = past }) (record { steps = steps; event = event; requests = map asked_number requests; replies = map replied_number replies })
-steps_less s steps event requests replies past sound stays allowed known few known' few' told_is =
+steps_less s steps event requests replies past sound stays allowed known awake few known' awake' few' told_is =
     let w : World = told_world s.past in
     let st = sound.state in
     let s' : State = record s { requests = requests; replies = replies; past = past } in
@@ -160,13 +174,15 @@ steps_less s steps event requests replies past sound stays allowed known few kno
     let state : IsStateOf w s' = record {
       cells = st.cells;
       sure = st.sure;
-      running = st.running;
-      given = st.given;
+      stopped = st.stopped;
+      waits = st.waits;
       clock = st.clock;
       sent = st.sent;
       answered = st.answered;
       requests = known;
+      running = awake;
       replies = known';
+      answering = awake';
     } in
     let fewer = sound.few_requests in
     let fewer' = sound.few_replies in
@@ -174,6 +190,7 @@ steps_less s steps event requests replies past sound stays allowed known few kno
       state = subst (λ (v : World). IsStateOf v s') (sym there) state;
       few_requests = omega arith;
       few_replies = omega arith;
+      few_events = sound.few_events;
       small_sent = sound.small_sent;
       small_answered = sound.small_answered;
       shape = sound.shape;
@@ -182,16 +199,16 @@ steps_less s steps event requests replies past sound stays allowed known few kno
     record {
       sound = sound';
       run = keeps s s' (record { steps = steps; given = Some event }) sound sound' told_is allowed;
-      network = ap (λ calls. record { shape = s.shape; calls = calls; requests = map asked_number requests; replies = map replied_number replies }) told_is;
+      network = ap (λ calls. record { shape = s.shape; calls = calls; requests = map asked_number requests; replies = map replied_number replies; queue = s.queue }) told_is;
     }
 
 steps_quiet : (s : State) (requests : List Asked) (replies : List Replied) (past : Past) → IsSound s
-    → All (IsSent (told_world s.past).sent) requests → length requests ≤ length s.requests
-    → All (IsGiven (told_world s.past).replies) replies → length replies ≤ length s.replies
+    → All (IsSent (told_world s.past).sent) requests → All (λ asked. is_among s.stopped asked.node ≡ false) requests → length requests ≤ length s.requests
+    → All (IsGiven (told_world s.past).replies) replies → All (λ replied. is_among s.stopped replied.node ≡ false) replies → length replies ≤ length s.replies
     → calls_of past ≡ record { steps = []; given = Some Event.Quiet } ∷ calls_of s.past
     → Steps s (record s { requests = requests; replies = replies; past = past }) (quiet (map asked_number requests) (map replied_number replies))
-steps_quiet s requests replies past sound known few known' few' told_is =
-    steps_less s [] Event.Quiet requests replies past sound (after_quiet (told_world s.past)) (tt, tt) known few known' few' told_is
+steps_quiet s requests replies past sound known awake few known' awake' few' told_is =
+    steps_less s [] Event.Quiet requests replies past sound (after_quiet (told_world s.past)) (tt, tt) known awake few known' awake' few' told_is
 
 pub steps_left : (s : State) (place : ℕ) (stays : Bool) (past : Past) → IsSound s → place < length s.requests
     → calls_of past ≡ record { steps = []; given = Some Event.Quiet } ∷ calls_of s.past
@@ -199,8 +216,9 @@ pub steps_left : (s : State) (place : ℕ) (stays : Bool) (past : Past) → IsSo
 steps_left s place stays past sound within told_is =
     subst (λ l. Steps s (record s { requests = taken s.requests place stays; past = past }) (quiet l (network_of s).replies)) (map-taken asked_number s.requests place stays)
     (steps_quiet s (taken s.requests place stays) s.replies past sound
-    (All-taken (IsSent (told_world s.past).sent) s.requests place stays sound.state.requests) (length-taken s.requests place stays within)
-    sound.state.replies (omega arith) told_is)
+    (All-taken (IsSent (told_world s.past).sent) s.requests place stays sound.state.requests)
+    (All-taken (λ (asked : Asked). is_among s.stopped asked.node ≡ false) s.requests place stays sound.state.running) (length-taken s.requests place stays within)
+    sound.state.replies sound.state.answering (omega arith) told_is)
 
 pub steps_dropped : (s : State) (place : ℕ) (past : Past) → IsSound s → place < length s.replies
     → calls_of past ≡ record { steps = []; given = Some Event.Quiet } ∷ calls_of s.past
@@ -208,8 +226,9 @@ pub steps_dropped : (s : State) (place : ℕ) (past : Past) → IsSound s → pl
 steps_dropped s place past sound within told_is =
     subst (λ l. Steps s (record s { replies = taken s.replies place false; past = past }) (quiet (network_of s).requests l)) (map-taken replied_number s.replies place false)
     (steps_quiet s s.requests (taken s.replies place false) past sound
-    sound.state.requests (omega arith)
-    (All-taken (IsGiven (told_world s.past).replies) s.replies place false sound.state.replies) (length-taken s.replies place false within) told_is)
+    sound.state.requests sound.state.running (omega arith)
+    (All-taken (IsGiven (told_world s.past).replies) s.replies place false sound.state.replies)
+    (All-taken (λ (replied : Replied). is_among s.stopped replied.node ≡ false) s.replies place false sound.state.answering) (length-taken s.replies place false within) told_is)
 
 -- ---- the connection to a node breaks
 
@@ -231,26 +250,38 @@ asked_elsewhere node asked = not (asked.node == node)
 abbrev pub replied_elsewhere : ℕ → Replied → Bool
 replied_elsewhere node replied = not (replied.node == node)
 
-pub steps_cut : (s : State) (node : ℕ) (past : Past) → IsSound s
+-- what is in flight with other nodes, by its numbers
+pub requests_left : (s : State) (node : ℕ) → IsSound s → map asked_number (filter (asked_elsewhere node) s.requests) ≡ requests_elsewhere (network_of s) node
+requests_left s node sound =
+    let w : World = told_world s.past in
+    filter_numbers asked_number (λ send. not (is_to node (numbered w.sent send))) (asked_elsewhere node) s.requests
+    (All-weaker (IsSent w.sent) (λ a. not (is_to node (numbered w.sent a.number)) ≡ asked_elsewhere node a) (λ a h. ap (λ o. not (is_to node o)) h) s.requests sound.state.requests)
+
+pub replies_left : (s : State) (node : ℕ) → IsSound s → map replied_number (filter (replied_elsewhere node) s.replies) ≡ replies_elsewhere (network_of s) node
+replies_left s node sound =
+    let w : World = told_world s.past in
+    filter_numbers replied_number (λ reply. not (is_by node (numbered w.replies reply))) (replied_elsewhere node) s.replies
+    (All-weaker (IsGiven w.replies) (λ r. not (is_by node (numbered w.replies r.number)) ≡ replied_elsewhere node r) (λ r g. ap (λ o. not (is_by node o)) g.is) s.replies sound.state.replies)
+
+pub steps_cut : (s : State) (node : ℕ) (past : Past) → IsSound s → s.queue ≡ []
     → calls_of past ≡ record { steps = Step.Cut node ∷ []; given = Some (Event.Broken node) } ∷ calls_of s.past
     → Steps s (record s { requests = filter (asked_elsewhere node) s.requests; replies = filter (replied_elsewhere node) s.replies; past = past }) (broken (network_of s) node)
-steps_cut s node past sound told_is =
+steps_cut s node past sound calm told_is =
     let w : World = told_world s.past in
     let st = sound.state in
+    let none : w.waiting ≡ [] = none_waits s sound calm in
     let requests : List Asked = filter (asked_elsewhere node) s.requests in
     let replies : List Replied = filter (replied_elsewhere node) s.replies in
     let s' : State = record s { requests = requests; replies = replies; past = past } in
-    let numbers : map asked_number requests ≡ requests_elsewhere (network_of s) node =
-    filter_numbers asked_number (λ send. not (is_to node (numbered w.sent send))) (asked_elsewhere node) s.requests
-    (All-weaker (IsSent w.sent) (λ a. not (is_to node (numbered w.sent a.number)) ≡ asked_elsewhere node a) (λ a h. ap (λ o. not (is_to node o)) h) s.requests st.requests) in
-    let numbers' : map replied_number replies ≡ replies_elsewhere (network_of s) node =
-    filter_numbers replied_number (λ reply. not (is_by node (numbered w.replies reply))) (replied_elsewhere node) s.replies
-    (All-weaker (IsGiven w.replies) (λ r. not (is_by node (numbered w.replies r.number)) ≡ replied_elsewhere node r) (λ r g. ap (λ o. not (is_by node o)) g.is) s.replies st.replies) in
-    let next : IsNext (w.waiting ++ Broken_made node ∷ []) (Event.Broken node) = subst (λ l. IsNext (l ++ Broken_made node ∷ []) (Event.Broken node)) (sym st.given) refl in
+    let numbers : map asked_number requests ≡ requests_elsewhere (network_of s) node = requests_left s node sound in
+    let numbers' : map replied_number replies ≡ replies_elsewhere (network_of s) node = replies_left s node sound in
+    let next : IsNext (w.waiting ++ Broken_made node ∷ []) (Event.Broken node) = subst (λ l. IsNext (l ++ Broken_made node ∷ []) (Event.Broken node)) (sym none) refl in
     let less : Steps s s' (record { steps = Step.Cut node ∷ []; event = Event.Broken node; requests = map asked_number requests; replies = map replied_number replies }) =
-    steps_less s (Step.Cut node ∷ []) (Event.Broken node) requests replies past sound (after_cut w node st.given) ((tt, tt), next)
-    (All-filter (asked_elsewhere node) (IsSent w.sent) s.requests st.requests) (length-filtered (asked_elsewhere node) s.requests)
-    (All-filter (replied_elsewhere node) (IsGiven w.replies) s.replies st.replies) (length-filtered (replied_elsewhere node) s.replies) told_is in
+    steps_less s (Step.Cut node ∷ []) (Event.Broken node) requests replies past sound (after_cut w node none) ((tt, tt), next)
+    (All-filter (asked_elsewhere node) (IsSent w.sent) s.requests st.requests)
+    (All-filter (asked_elsewhere node) (λ (asked : Asked). is_among s.stopped asked.node ≡ false) s.requests st.running) (length-filtered (asked_elsewhere node) s.requests)
+    (All-filter (replied_elsewhere node) (IsGiven w.replies) s.replies st.replies)
+    (All-filter (replied_elsewhere node) (λ (replied : Replied). is_among s.stopped replied.node ≡ false) s.replies st.answering) (length-filtered (replied_elsewhere node) s.replies) told_is in
     subst (λ l. Steps s s' (record { steps = Step.Cut node ∷ []; event = Event.Broken node; requests = l; replies = replies_elsewhere (network_of s) node })) numbers
     (subst (λ l. Steps s s' (record { steps = Step.Cut node ∷ []; event = Event.Broken node; requests = map asked_number requests; replies = l })) numbers' less)
 
@@ -266,36 +297,40 @@ pub record Sends (s s' : State) (node : ℕ) (frame : List ℕ) : Type 0 where
   pub run : KeepsState s s'
   pub network : network_of s' ≡ after_send (network_of s) node frame
 
-pub steps_sent : (s : State) (node : ℕ) (frame : List ℕ) (past : Past) (sent : ℕ) → IsSound s → sent ≡ s.sent + 1 → sent < 2 ^ 32
+pub steps_sent : (s : State) (node : ℕ) (frame : List ℕ) (past : Past) (sent : ℕ) → IsSound s → is_stopped (network_of s) node ≡ false → sent ≡ s.sent + 1 → sent < 2 ^ 32
     → calls_of past ≡ record { steps = Step.Send 0 node frame ∷ []; given = None } ∷ calls_of s.past
     → Sends s (record s { requests = s.requests ++ record { number = s.sent; node = node; frame = frame } ∷ []; sent = sent; past = past }) node frame
-steps_sent s node frame past sent sound more small told_is =
+steps_sent s node frame past sent sound runs_there more small told_is =
     let w : World = told_world s.past in
     let st = sound.state in
     let asked : Asked = record { number = s.sent; node = node; frame = frame } in
     let request : Request = record { from = 0; node = node; frame = frame_in frame } in
     let w' : World = record w { sent = request ∷ w.sent } in
     let s' : State = record s { requests = s.requests ++ asked ∷ []; sent = sent; past = past } in
-    let there : told_world past ≡ w' = world_by past s.past _ _ told_is (after_sent w node frame) in
+    let there : told_world past ≡ w' = world_by past s.past _ _ told_is (after_request w node frame) in
+    let runs : is_among s.stopped node ≡ false = sym (st.stopped node) ∙ runs_there in
     let known : All (IsSent w'.sent) (s.requests ++ asked ∷ []) =
     All-push (IsSent w'.sent) s.requests asked (All-weaker (IsSent w.sent) (IsSent w'.sent) (λ a h. numbered_more request w.sent a.number _ h) s.requests st.requests) (numbered_last request w.sent s.sent st.sent) in
     let count : length (request ∷ w.sent) ≡ sent = omega (arith, st.sent, more) in
     let state : IsStateOf w' s' = record {
       cells = st.cells;
       sure = st.sure;
-      running = st.running;
-      given = st.given;
+      stopped = st.stopped;
+      waits = st.waits;
       clock = st.clock;
       sent = count;
       answered = st.answered;
       requests = known;
+      running = All-push (λ (a : Asked). is_among s.stopped a.node ≡ false) s.requests asked st.running runs;
       replies = st.replies;
+      answering = st.answering;
     } in
     let fewer = sound.few_requests in
     let sound' : IsSound s' = record {
       state = subst (λ (v : World). IsStateOf v s') (sym there) state;
       few_requests = omega (arith, length-append s.requests (asked ∷ []), more);
       few_replies = sound.few_replies;
+      few_events = sound.few_events;
       small_sent = small;
       small_answered = sound.small_answered;
       shape = sound.shape;
@@ -306,8 +341,9 @@ steps_sent s node frame past sent sound more small told_is =
     record {
       sound = sound';
       run = keeps s s' (record { steps = Step.Send 0 node frame ∷ []; given = None }) sound sound' told_is (tt, inl refl);
-      network = ap (λ calls. record { shape = s.shape; calls = calls; requests = map asked_number (s.requests ++ asked ∷ []); replies = map replied_number s.replies }) told_is
-          ∙ ap (λ l. record { shape = s.shape; calls = record { steps = Step.Send 0 node frame ∷ []; given = None } ∷ calls_of s.past; requests = l; replies = map replied_number s.replies }) numbers;
+      network = ap (λ calls. record { shape = s.shape; calls = calls; requests = map asked_number (s.requests ++ asked ∷ []); replies = map replied_number s.replies; queue = s.queue }) told_is
+          ∙ ap (λ l. record { shape = s.shape; calls = record { steps = Step.Send 0 node frame ∷ []; given = None } ∷ calls_of s.past; requests = l; replies = map replied_number s.replies; queue = s.queue }) numbers
+          ∙ ap (λ b. cond b (after_steps (network_of s) (Step.Refused node frame ∷ [])) (after_sent (network_of s) node frame)) (sym runs_there);
     }
 
 -- ---- a reply comes
@@ -316,35 +352,39 @@ pub record Hands (s s' : State) (place : ℕ) (stays : Bool) (event : Event) : T
   pub steps : Steps s s' (handed (network_of s) (Some place) stays)
   pub gave : (handed (network_of s) (Some place) stays).event ≡ event
 
-pub steps_handed : (s : State) (place : ℕ) (stays : Bool) (replied : Replied) (bytes : List ℕ) (past : Past) → IsSound s → place < length s.replies → replied ≡ slice_index_or s.replies place replied
+pub steps_handed : (s : State) (place : ℕ) (stays : Bool) (replied : Replied) (bytes : List ℕ) (past : Past) → IsSound s → s.queue ≡ [] → place < length s.replies → replied ≡ slice_index_or s.replies place replied
     → bytes ≡ frame_text replied.frame → frame_of bytes ≡ Some replied.frame
     → calls_of past ≡ record { steps = Step.Hand replied.number ∷ []; given = Some (Event.Reply replied.node bytes) } ∷ calls_of s.past
     → Hands s (record s { replies = taken s.replies place stays; past = past }) place stays (Event.Reply replied.node bytes)
-steps_handed s place stays replied bytes past sound within here spelled read told_is =
+steps_handed s place stays replied bytes past sound calm within here spelled read told_is =
     let w : World = told_world s.past in
     let st = sound.state in
+    let none : w.waiting ≡ [] = none_waits s sound calm in
     let g : IsGiven w.replies replied = subst (λ r. IsGiven w.replies r) (sym here) (st.replies place replied within) in
     let answer : Answered = record { request = record { from = 0; node = replied.node; frame = Some g.asked }; reply = g.reply } in
     let event : Event = Event.Reply replied.node bytes in
     let w' : World = record w { handed = replied.number ∷ w.handed } in
     let s' : State = record s { replies = taken s.replies place stays; past = past } in
-    let there : told_world past ≡ w' = world_by past s.past _ _ told_is (after_handed w replied.number answer replied.node bytes st.given g.is refl) in
+    let there : told_world past ≡ w' = world_by past s.past _ _ told_is (after_handed w replied.number answer replied.node bytes none g.is refl) in
     let state : IsStateOf w' s' = record {
       cells = st.cells;
       sure = st.sure;
-      running = st.running;
-      given = st.given;
+      stopped = st.stopped;
+      waits = st.waits;
       clock = st.clock;
       sent = st.sent;
       answered = st.answered;
       requests = st.requests;
+      running = st.running;
       replies = All-taken (IsGiven w.replies) s.replies place stays st.replies;
+      answering = All-taken (λ (r : Replied). is_among s.stopped r.node ≡ false) s.replies place stays st.answering;
     } in
     let fewer = sound.few_replies in
     let sound' : IsSound s' = record {
       state = subst (λ (v : World). IsStateOf v s') (sym there) state;
       few_requests = sound.few_requests;
       few_replies = omega (arith, length-taken s.replies place stays within);
+      few_events = sound.few_events;
       small_sent = sound.small_sent;
       small_answered = sound.small_answered;
       shape = sound.shape;
@@ -352,7 +392,7 @@ steps_handed s place stays replied bytes past sound within here spelled read tol
     } in
     let shown : Shows (Reply_made answer) event = (refl, (g.asked, refl, decoded_frame bytes replied.frame read ∙ ap Some g.frame)) in
     let next : IsNext (w.waiting ++ made_by (numbered w.replies replied.number)) event =
-    subst (λ o. IsNext (w.waiting ++ made_by o) event) (sym g.is) (subst (λ l. IsNext (l ++ made_by (Some answer)) event) (sym st.given) shown) in
+    subst (λ o. IsNext (w.waiting ++ made_by o) event) (sym g.is) (subst (λ l. IsNext (l ++ made_by (Some answer)) event) (sym none) shown) in
     let some : IsSome (numbered w.replies replied.number) = subst (λ o. IsSome o) (sym g.is) refl in
     let number : slice_index (network_of s).replies place ≡ replied.number = get_or-map replied_number s.replies place replied 0 within ∙ ap replied_number (sym here) in
     let given_as : reply_event (numbered w.replies (slice_index (network_of s).replies place)) ≡ event =
@@ -362,10 +402,10 @@ steps_handed s place stays replied bytes past sound within here spelled read tol
         sound = sound';
         run = keeps s s' (record { steps = Step.Hand replied.number ∷ []; given = Some event }) sound sound' told_is ((tt, some), next);
         network =
-            ap (λ calls. record { shape = s.shape; calls = calls; requests = map asked_number s.requests; replies = map replied_number (taken s.replies place stays) }) told_is
-            ∙ ap (λ l. record { shape = s.shape; calls = record { steps = Step.Hand replied.number ∷ []; given = Some event } ∷ calls_of s.past; requests = map asked_number s.requests; replies = l }) (map-taken replied_number s.replies place stays)
-            ∙ ap (λ k. record { shape = s.shape; calls = record { steps = Step.Hand k ∷ []; given = Some event } ∷ calls_of s.past; requests = map asked_number s.requests; replies = taken (map replied_number s.replies) place stays }) (sym number)
-            ∙ ap (λ e. record { shape = s.shape; calls = record { steps = Step.Hand (slice_index (network_of s).replies place) ∷ []; given = Some e } ∷ calls_of s.past; requests = map asked_number s.requests; replies = taken (map replied_number s.replies) place stays }) (sym given_as);
+            ap (λ calls. record { shape = s.shape; calls = calls; requests = map asked_number s.requests; replies = map replied_number (taken s.replies place stays); queue = s.queue }) told_is
+            ∙ ap (λ l. record { shape = s.shape; calls = record { steps = Step.Hand replied.number ∷ []; given = Some event } ∷ calls_of s.past; requests = map asked_number s.requests; replies = l; queue = s.queue }) (map-taken replied_number s.replies place stays)
+            ∙ ap (λ k. record { shape = s.shape; calls = record { steps = Step.Hand k ∷ []; given = Some event } ∷ calls_of s.past; requests = map asked_number s.requests; replies = taken (map replied_number s.replies) place stays; queue = s.queue }) (sym number)
+            ∙ ap (λ e. record { shape = s.shape; calls = record { steps = Step.Hand (slice_index (network_of s).replies place) ∷ []; given = Some e } ∷ calls_of s.past; requests = map asked_number s.requests; replies = taken (map replied_number s.replies) place stays; queue = s.queue }) (sym given_as);
       };
       gave = given_as;
     }
@@ -441,17 +481,21 @@ steps_ran s place stays asked f question reply replicas past count sound within 
     All-push (IsGiven (answer ∷ w.replies)) s.replies replied
     (All-weaker (IsGiven w.replies) (IsGiven (answer ∷ w.replies)) (λ r g. record { asked = g.asked; reply = g.reply; is = numbered_more answer w.replies r.number _ g.is; frame = g.frame; spelled = g.spelled }) s.replies st.replies)
     new_given in
+    let runs : is_among s.stopped asked.node ≡ false =
+    subst (λ (a : Asked). is_among s.stopped a.node ≡ false) (sym here) (st.running place asked within) in
     let counted : length (answer ∷ w.replies) ≡ count = omega (arith, st.answered, more) in
     let state : IsStateOf w' s' = record {
       cells = held;
       sure = st.sure;
-      running = st.running;
-      given = st.given;
+      stopped = st.stopped;
+      waits = st.waits;
       clock = st.clock;
       sent = st.sent;
       answered = counted;
       requests = All-taken (IsSent w.sent) s.requests place stays st.requests;
+      running = All-taken (λ (a : Asked). is_among s.stopped a.node ≡ false) s.requests place stays st.running;
       replies = given;
+      answering = All-push (λ (r : Replied). is_among s.stopped r.node ≡ false) s.replies replied st.answering runs;
     } in
     let fewer = sound.few_requests in
     let fewer' = sound.few_replies in
@@ -459,6 +503,7 @@ steps_ran s place stays asked f question reply replicas past count sound within 
       state = subst (λ (v : World). IsStateOf v s') (sym there) state;
       few_requests = omega (arith, length-taken s.requests place stays within);
       few_replies = omega (arith, length-append s.replies (replied ∷ []), more);
+      few_events = sound.few_events;
       small_sent = sound.small_sent;
       small_answered = small;
       shape = sound.shape;
@@ -476,14 +521,14 @@ steps_ran s place stays asked f question reply replicas past count sound within 
     let called_at : call_at w asked.number ≡ Some call = ap call_of request_is ∙ called in
     let reply_may : MayReply (w.doubts asked.node question.partition) (w.cells asked.node question.partition (id_of question.ask)) question.ask reply =
     subst (λ d. MayReply d (w.cells asked.node question.partition (id_of question.ask)) question.ask reply) (sym (st.sure asked.node question.partition)) (may_run n call reply may_answer) in
-    let may : MayRun w asked.number call reply = record { sent = called_at; running = st.running asked.node; says = reply_may } in
+    let may : MayRun w asked.number call reply = record { sent = called_at; running = st.stopped asked.node ∙ runs; says = reply_may } in
     let steps : Steps s s' (ran n reply (Some place) stays) = record {
       sound = sound';
       run = keeps s s' (record { steps = Step.Exec asked.number reply ∷ []; given = Some Event.Quiet }) sound sound' told_is ((tt, (call, may)), tt);
       network =
-          ap (λ calls. record { shape = s.shape; calls = calls; requests = map asked_number (taken s.requests place stays); replies = map replied_number (s.replies ++ replied ∷ []) }) told_is
-          ∙ ap (λ l. record { shape = s.shape; calls = record { steps = Step.Exec asked.number reply ∷ []; given = Some Event.Quiet } ∷ calls_of s.past; requests = l; replies = map replied_number (s.replies ++ replied ∷ []) }) (map-taken asked_number s.requests place stays)
-          ∙ ap (λ l. record { shape = s.shape; calls = record { steps = Step.Exec asked.number reply ∷ []; given = Some Event.Quiet } ∷ calls_of s.past; requests = taken (map asked_number s.requests) place stays; replies = l })
+          ap (λ calls. record { shape = s.shape; calls = calls; requests = map asked_number (taken s.requests place stays); replies = map replied_number (s.replies ++ replied ∷ []); queue = s.queue }) told_is
+          ∙ ap (λ l. record { shape = s.shape; calls = record { steps = Step.Exec asked.number reply ∷ []; given = Some Event.Quiet } ∷ calls_of s.past; requests = l; replies = map replied_number (s.replies ++ replied ∷ []); queue = s.queue }) (map-taken asked_number s.requests place stays)
+          ∙ ap (λ l. record { shape = s.shape; calls = record { steps = Step.Exec asked.number reply ∷ []; given = Some Event.Quiet } ∷ calls_of s.past; requests = taken (map asked_number s.requests) place stays; replies = l; queue = s.queue })
           (map-append replied_number s.replies (replied ∷ []) ∙ ap (λ k. map replied_number s.replies ++ k ∷ []) (sym st.answered))
           ∙ ap (λ k. after_move n (record { steps = Step.Exec k reply ∷ []; event = Event.Quiet; requests = taken n.requests place stays; replies = n.replies ++ length w.replies ∷ [] })) (sym number)
           ∙ ap (λ o. after_move n (answered n reply (slice_index n.requests place) (taken n.requests place stays) o)) (sym asked_is);

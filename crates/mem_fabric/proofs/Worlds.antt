@@ -5,11 +5,12 @@ use Rattle.cell_model.specs.declared.ask.Reply.{Reply}
 use Rattle.cell_model.specs.declared.cell.Cell.TheVariants.{Absent}
 use Rattle.cell_model.specs.Cells.{join}
 use Rattle.mem_fabric.specs.Network.{nothing_held}
+use Rattle.mem_fabric.specs.Runs.{Image, IsImageOf, LeadsTo}
 use Rattle.mem_fabric.proofs.Askings.{join_absent}
 use Rattle.world_model.specs.declared.step.Called.{Called}
 use Rattle.world_model.specs.declared.step.Event.{Event}
 use Rattle.world_model.specs.declared.step.Step.{Step}
-use Rattle.world_model.specs.Fabric.{Image, IsImageOf, KeepsRun}
+use Rattle.world_model.specs.Fabric.{KeepsRun}
 use Rattle.world_model.specs.Frames.{frame_in}
 use Rattle.world_model.specs.Lists.{numbered}
 use Rattle.world_model.specs.Record.{Item, Marked, Drawn, Aimed, Took, Given, Withheld, Decided, Record}
@@ -36,7 +37,7 @@ run_on opening (item ∷ items) before r a = (run_on opening items before r a.0,
 
 -- ---- after the items of a call
 
-same_cells : (c : Cells) → (λ (n p : ℕ) (id : BlobId). join (c n p id) Absent) ≡ c
+pub same_cells : (c : Cells) → (λ (n p : ℕ) (id : BlobId). join (c n p id) Absent) ≡ c
 same_cells c = λ i n p id. join_absent (c n p id) i
 
 same_twice : (c : Cells) → (λ (n p : ℕ) (id : BlobId). join (join (c n p id) Absent) Absent) ≡ c
@@ -45,8 +46,8 @@ same_twice c = λ i n p id. (join_absent (join (c n p id) Absent) ∙ join_absen
 pub after_quiet : (w : World) → after w (Given Event.Quiet) ≡ w
 after_quiet w = ap (λ (c : Cells). record w { cells = c }) (same_cells w.cells)
 
-pub after_sent : (w : World) (node : ℕ) (frame : List ℕ) → after w (Took (Step.Send 0 node frame)) ≡ record w { sent = record { from = 0; node = node; frame = frame_in frame } ∷ w.sent }
-after_sent w node frame = ap (λ (c : Cells). record w { cells = c; sent = record { from = 0; node = node; frame = frame_in frame } ∷ w.sent }) (same_cells w.cells)
+pub after_request : (w : World) (node : ℕ) (frame : List ℕ) → after w (Took (Step.Send 0 node frame)) ≡ record w { sent = record { from = 0; node = node; frame = frame_in frame } ∷ w.sent }
+after_request w node frame = ap (λ (c : Cells). record w { cells = c; sent = record { from = 0; node = node; frame = frame_in frame } ∷ w.sent }) (same_cells w.cells)
 
 pub after_now : (w : World) (ms : ℕ) → w.waiting ≡ [] → after (after w (Took (Step.Now ms))) (Given (Event.Now ms)) ≡ record w { clock = ms }
 after_now w ms none =
@@ -120,7 +121,7 @@ same_world a b items same = apart a b items ∙ ap (λ (c : Cells). record (worl
 
 -- a call that is allowed where nothing was held at first is allowed from wherever the calls before were a run to these cells
 pub keeps_run : (calls : List Called) (image : Image) (call : Called) (image' : Image) → IsImageOf image (world nothing_held (told calls)) → AllowedOn (world nothing_held (told calls)) (items_of call)
-    → IsImageOf image' (world nothing_held (told (call ∷ calls))) → KeepsRun (Some calls) (Some image) (Some (call ∷ calls)) (Some image')
+    → IsImageOf image' (world nothing_held (told (call ∷ calls))) → KeepsRun (λ opening. LeadsTo opening calls image) (λ opening. LeadsTo opening (call ∷ calls) image')
 keeps_run calls image call image' is allowed is' = λ opening leads.
     let same : world opening (told calls) ≡ world nothing_held (told calls) = same_world opening nothing_held (told calls) (λ n p id. sym (leads.reached.cells n p id) ∙ is.cells n p id) in
     let after_call : world opening (told (call ∷ calls)) ≡ world nothing_held (told (call ∷ calls)) =

@@ -4,5 +4,6 @@ pub mod Past
 pub mod Asking
 pub mod Slots
 pub mod Standing
+pub mod Runs
 pub mod Sound
 pub mod PlayedLaws

@@ -1,5 +1,5 @@
 -- A network in memory: what it told, what is in flight, and what a move makes of it.
-use Rattle.std.specs.Prelude.{◌≡◌, ◌⊎◌, ℕ, ◌+◌, ◌-◌, ◌%◌, ◌^◌, ◌<◌, min, ◌==◌, Bool, true, false, ◌&&◌, nat_le, nat_lt, not, cond, List, [], ◌∷◌, ◌++◌, length, filter, Option, Some, None, slice_index, remove, Result, Ok, Err}
+use Rattle.std.specs.Prelude.{◌≡◌, ◌⊎◌, ℕ, ◌+◌, ◌-◌, ◌%◌, ◌^◌, ◌<◌, min, ◌==◌, Bool, true, false, ◌&&◌, nat_le, nat_lt, not, cond, List, [], ◌∷◌, ◌++◌, length, drop, filter, Option, Some, None, slice_index, remove, Result, Ok, Err}
 use Rattle.std.specs.Option.{is_some}
 use Rattle.blob_id.specs.declared.memory.Memory.{Memory}
 use Rattle.cell_model.specs.declared.ask.Reply.{Reply}
@@ -10,6 +10,8 @@ use Rattle.req_frame.specs.declared.frame.Frame.{Frame}
 use Rattle.req_frame.specs.Spelling.{frame_text}
 use Rattle.world_model.specs.declared.moves.Move.{Move}
 use Rattle.world_model.specs.declared.moves.Move.TheVariants as moves
+use Rattle.world_model.specs.declared.order.Order.{Order}
+use Rattle.world_model.specs.declared.order.Told.{Told}
 use Rattle.world_model.specs.declared.shape.Shape.{Shape}
 use Rattle.world_model.specs.declared.step.Called.{Called}
 use Rattle.world_model.specs.declared.step.Event.{Event}
@@ -25,21 +27,26 @@ use Rattle.world_model.specs.World.{Cells, Request, Answered, World, world, Call
 abbrev pub nothing_held : Cells
 nothing_held = λ n p id. Absent
 
--- What it was opened for, what it told, and the numbers of the requests and replies in flight, the oldest of these first. Frames, replies,
--- the clock and the cells are those of the world that was told.
+-- What it was opened for, what it told, the numbers of the requests and replies in flight, and the events that were made and not given yet,
+-- the oldest of these first. Frames, replies, the clock, the cells and which nodes are stopped are those of the world that was told.
 pub record Network : Type 0 where
   pub shape : Option Shape
   pub calls : List Called
   pub requests : List ℕ
   pub replies : List ℕ
+  pub queue : List Event
 
 -- one that was never opened
 abbrev pub nothing : Network
-nothing = record { shape = None; calls = []; requests = []; replies = [] }
+nothing = record { shape = None; calls = []; requests = []; replies = []; queue = [] }
 
 -- the world that it told
 abbrev pub world_of : Network → World
 world_of n = world nothing_held (told n.calls)
+
+-- whether a node is stopped in the world that it told
+abbrev pub is_stopped : Network → ℕ → Bool
+is_stopped n node = (world_of n).stopped node
 
 -- what a move does, and what is in flight afterwards
 pub record Moved : Type 0 where
@@ -177,6 +184,25 @@ broken n node = record {
 abbrev pub cut : Network → ℕ → Moved
 cut n node = cond (is_node n.shape node) (broken n node) (ticked n 0)
 
+-- a node stops: what is in flight between it and the router is lost
+abbrev pub halted : Network → ℕ → Moved
+halted n node = record {
+  steps = steps.Stop node ∷ [];
+  event = events.Broken node;
+  requests = requests_elsewhere n node;
+  replies = replies_elsewhere n node;
+}
+
+abbrev pub stops : Network → ℕ → Moved
+stops n node = cond (is_node n.shape node && not (is_stopped n node)) (halted n node) (ticked n 0)
+
+-- a stopped node runs again: its replicas hold what they held, and nothing is in doubt
+abbrev pub resumed : Network → ℕ → Moved
+resumed n node = record { steps = steps.Restart node [] ∷ []; event = events.Quiet; requests = n.requests; replies = n.replies }
+
+abbrev pub restarts : Network → ℕ → Moved
+restarts n node = cond (is_node n.shape node && is_stopped n node) (resumed n node) (ticked n 0)
+
 -- What a move does; this is the reply, where it runs a request that asks something. Other moves are those on nothing.
 abbrev pub moved : Network → Reply → Move → Moved
 moved n reply (moves.Run k) = ran n reply (place_among k (length n.requests)) false
@@ -187,6 +213,8 @@ moved n reply (moves.HandAgain k) = handed n (place_among k (length n.replies)) 
 moved n reply (moves.DropReply k) = dropped_reply n (place_among k (length n.replies))
 moved n reply (moves.Tick ms) = ticked n ms
 moved n reply (moves.Cut node) = cut n node
+moved n reply (moves.Stop node) = stops n node
+moved n reply (moves.Restart node) = restarts n node
 moved n reply _ = ticked n 0
 
 -- the network after a move, told as one call
@@ -238,9 +266,51 @@ Does old chosen new (Err memory) = new ≡ old
 abbrev pub after_open : Network → Shape → Network
 after_open n shape = record n { shape = Some shape; calls = record { steps = []; given = None } ∷ n.calls }
 
+-- the network after one more call that gave no event
+abbrev pub after_steps : Network → List Step → Network
+after_steps n made = record n { calls = record { steps = made; given = None } ∷ n.calls }
+
 -- the network after a request was sent
-abbrev pub after_send : Network → ℕ → List ℕ → Network
-after_send n node frame = record n {
+abbrev pub after_sent : Network → ℕ → List ℕ → Network
+after_sent n node frame = record n {
   calls = record { steps = steps.Send 0 node frame ∷ []; given = None } ∷ n.calls;
   requests = n.requests ++ length (world_of n).sent ∷ [];
 }
+
+-- the network after a request was to be sent: one to a stopped node is refused
+abbrev pub after_send : Network → ℕ → List ℕ → Network
+after_send n node frame = cond (is_stopped n node) (after_steps n (steps.Refused node frame ∷ [])) (after_sent n node frame)
+
+-- the network after a node was stopped by an order: that its connection broke waits to be given
+abbrev pub after_stop : Network → ℕ → Network
+after_stop n node = record n {
+  calls = record { steps = steps.Stop node ∷ []; given = None } ∷ n.calls;
+  requests = requests_elsewhere n node;
+  replies = replies_elsewhere n node;
+  queue = n.queue ++ events.Broken node ∷ [];
+}
+
+-- what an order is answered: a node that is in that state already stays in it
+abbrev pub answer_to : Network → Order → Told
+answer_to n (Order.Stop node) = cond (is_stopped n node) Told.Already Told.Done
+answer_to n (Order.Restart node) = cond (is_stopped n node) Told.Done Told.Already
+answer_to n order = Told.Nothing
+
+-- the network after an order that was answered so
+abbrev pub after_order : Network → Order → Told → Network
+after_order n (Order.Stop node) Told.Done = after_stop n node
+after_order n (Order.Restart node) Told.Done = after_steps n (steps.Restart node [] ∷ [])
+after_order n order answer = after_steps n []
+
+-- an order was carried out, or its node was in that state
+pub record Obeys (old : Network) (order : Order) (answer : Told) (new : Network) : Type 0 where
+  pub answer_is : answer ≡ answer_to old order
+  pub network : new ≡ after_order old order answer
+
+-- the event is the oldest that waits
+abbrev pub IsOldest : List Event → Event → Type 0
+IsOldest queue event = (rest : List Event) × (queue ≡ event ∷ rest)
+
+-- the network after the oldest event that waited was given
+abbrev pub after_given : Network → Event → Network
+after_given n event = record n { calls = record { steps = []; given = Some event } ∷ n.calls; queue = drop 1 n.queue }

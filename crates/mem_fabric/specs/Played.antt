@@ -2,30 +2,39 @@
 use Rattle.std.specs.Prelude.{◌≡◌, ℕ, List, [], ◌∷◌, ◌++◌, Option, Some, None, IsSome}
 use Rattle.cell_model.specs.declared.ask.Reply.{Reply}
 use Rattle.world_model.specs.declared.moves.Move.{Move}
+use Rattle.world_model.specs.declared.order.Order.{Order}
+use Rattle.world_model.specs.declared.order.Told.{Told}
 use Rattle.world_model.specs.declared.shape.Shape.{Shape}
 use Rattle.world_model.specs.declared.step.Called.{Called}
-use Rattle.world_model.specs.Fabric.{HasNode}
-use Rattle.mem_fabric.specs.Network.{Network, nothing, moved, runs, MayGive, after_open, after_send, after_move}
+use Rattle.world_model.specs.declared.step.Event.{Event}
+use Rattle.world_model.specs.Fabric.{HasNode, TakesOrder}
+use Rattle.mem_fabric.specs.Network.{Network, nothing, moved, runs, MayGive, after_open, after_send, after_move, answer_to, after_order, IsOldest, after_given}
 
 -- One call on a network. A move that runs a request has its reply with it. A call that found no memory did nothing, though it may have
 -- been given a move.
 pub data Act : Type 0 where
   Opens : Shape → Act
   Sends : (node : ℕ) → (frame : List ℕ) → Act
+  Orders : Order → (answer : Told) → Act
+  Gives : Event → Act
   Moves : Move → Reply → Act
   Fails : Option Move → Act
 
 abbrev pub acted : Network → Act → Network
 acted n (Opens shape) = after_open n shape
 acted n (Sends node frame) = after_send n node frame
+acted n (Orders order answer) = after_order n order answer
+acted n (Gives event) = after_given n event
 acted n (Moves chosen reply) = after_move n (moved n reply chosen)
 acted n (Fails chosen) = n
 
--- the act may come next: opening comes once, and before all others that do something
+-- The act may come next: opening comes once, and before all others that do something, and a move where no event waits to be given.
 abbrev pub MayAct : Network → Act → Type 0
 MayAct n (Opens shape) = n ≡ nothing
 MayAct n (Sends node frame) = HasNode n.shape node
-MayAct n (Moves chosen reply) = IsSome n.shape × MayGive n (runs n chosen) reply
+MayAct n (Orders order answer) = TakesOrder n.shape order × (answer ≡ answer_to n order)
+MayAct n (Gives event) = IsOldest n.queue event
+MayAct n (Moves chosen reply) = IsSome n.shape × (n.queue ≡ []) × MayGive n (runs n chosen) reply
 MayAct n (Fails chosen) = Unit {0}
 
 -- the network after acts, the newest first
@@ -74,7 +83,8 @@ Plays given n given' n' = (acts : List Act) × DidAll acts × PlaysBy acts given
 abbrev pub Falls : List Move → Network → List Move → Network → Type 0
 Falls given n given' n' = (acts : List Act) × PlaysBy acts given n given' n'
 
--- the calls told are those of one opening for the shape, of sends, and of just these moves, in order and by the rule of moves
+-- The calls told are those of one opening for the shape, of sends, of orders, of events that waited, and of just these moves, in order and by
+-- the rule of moves.
 pub record IsPlayed (shape : Shape) (moves : List Move) (calls : List Called) : Type 0 where
   pub acts : List Act
   pub did : DidAll acts

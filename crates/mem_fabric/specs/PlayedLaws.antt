@@ -5,7 +5,7 @@ use Rattle.world_model.specs.declared.moves.Move.{Move}
 use Rattle.world_model.specs.declared.step.Called.{Called}
 use Rattle.mem_fabric.specs.Network.{Network}
 use Rattle.mem_fabric.specs.Past.{calls_of}
-use Rattle.mem_fabric.specs.Played.{Act, Opens, Sends, Moves, Fails, acted, MayAct, all_acted, AllMay, move_in, moves_of, DidAll, PlaysBy, Plays, Falls}
+use Rattle.mem_fabric.specs.Played.{Act, Opens, Sends, Orders, Gives, Moves, Fails, acted, MayAct, all_acted, AllMay, move_in, moves_of, DidAll, PlaysBy, Plays, Falls}
 use Rattle.mem_fabric.specs.Sound.{State, fresh_state}
 
 acted_on : (n : Network) (later before : List Act) → all_acted n (later ++ before) ≡ all_acted (all_acted n before) later
@@ -24,6 +24,8 @@ did_on : (later before : List Act) → DidAll later → DidAll before → DidAll
 did_on [] before a b = b
 did_on (Opens shape ∷ later) before a b = did_on later before a b
 did_on (Sends node frame ∷ later) before a b = did_on later before a b
+did_on (Orders order answer ∷ later) before a b = did_on later before a b
+did_on (Gives event ∷ later) before a b = did_on later before a b
 did_on (Moves chosen reply ∷ later) before a b = did_on later before a b
 did_on (Fails chosen ∷ later) before a b = absurd a
 

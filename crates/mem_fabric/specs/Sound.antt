@@ -1,5 +1,6 @@
 -- What the nodes and what is in flight have to do with what was told.
-use Rattle.std.specs.Prelude.{◌≡◌, ℕ, ◌<◌, ◌≤◌, ◌^◌, Bool, false, List, [], length, map, All, slice_get, Option, Some, None}
+use Rattle.std.specs.Prelude.{◌≡◌, ℕ, ◌<◌, ◌≤◌, ◌^◌, ◌==◌, Bool, false, List, [], ◌∷◌, length, map, All, slice_get, Option, Some, None}
+use Rattle.std.specs.List.{list_any}
 use Rattle.blob_id.specs.declared.id.BlobId.{BlobId}
 use Rattle.cell_model.specs.declared.ask.Reply.{Reply}
 use Rattle.req_frame.specs.declared.frame.Body.{Body}
@@ -13,22 +14,25 @@ use Rattle.mem_fabric.specs.declared.past.Past.{Past, Begun}
 use Rattle.mem_fabric.specs.Slots.{Standing}
 use Rattle.mem_fabric.specs.Network.{Network, nothing_held, stands, MayGive, runs_at, ran, after_move}
 use Rattle.mem_fabric.specs.Past.{calls_of}
+use Rattle.mem_fabric.specs.Runs.{Image, LeadsTo}
 use Rattle.mem_fabric.specs.Standing.{stands_at, cells_of, none_standing}
 use Rattle.world_model.specs.declared.shape.Shape.{Shape}
 use Rattle.world_model.specs.declared.step.Event.{Event}
-use Rattle.world_model.specs.Fabric.{Image, KeepsRun}
+use Rattle.world_model.specs.Fabric.{KeepsRun}
 use Rattle.world_model.specs.Frames.{frame_in}
 use Rattle.world_model.specs.Lists.{numbered}
 use Rattle.world_model.specs.Shape.{IsShape}
 use Rattle.world_model.specs.Told.{told}
-use Rattle.world_model.specs.World.{World, Request, Answered, world}
+use Rattle.world_model.specs.World.{Cells, World, Request, Answered, Made, Shows, world}
 
--- the nodes, what is in flight, the counts, the clock, and what was told
+-- the nodes and which of them are stopped, what is in flight, the events that wait, the counts, the clock, and what was told
 pub record State : Type 0 where
   pub shape : Option Shape
   pub replicas : Standing
+  pub stopped : List ℕ
   pub requests : List Asked
   pub replies : List Replied
+  pub queue : List Event
   pub sent : ℕ
   pub answered : ℕ
   pub clock : ℕ
@@ -36,7 +40,7 @@ pub record State : Type 0 where
 
 -- never opened
 abbrev pub fresh_state : State
-fresh_state = record { shape = None; replicas = none_standing; requests = []; replies = []; sent = 0; answered = 0; clock = 0; past = Begun }
+fresh_state = record { shape = None; replicas = none_standing; stopped = []; requests = []; replies = []; queue = []; sent = 0; answered = 0; clock = 0; past = Begun }
 
 -- the world that was told
 abbrev pub told_world : Past → World
@@ -54,23 +58,37 @@ pub record IsGiven (given : List Answered) (replied : Replied) : Type 0 where
   pub frame : replied.frame ≡ record { correlation = asked.correlation; partition = asked.partition; body = Body.Answer reply }
   pub spelled : IsFrame replied.frame
 
--- The state is that of a world in which each event was given, no node is stopped and nothing is in doubt.
+-- a node is one of these
+abbrev pub is_among : List ℕ → ℕ → Bool
+is_among nodes node = list_any (λ other. node == other) nodes
+
+-- the events tell what was made, one by one
+abbrev pub AllShow : List Made → List Event → Type 0
+AllShow [] [] = Unit {0}
+AllShow (made ∷ rest) (event ∷ events) = Shows made event × AllShow rest events
+AllShow _ _ = ⊥
+
+-- The state is that of a world in which nothing is in doubt. What waits there is queued, no request in flight goes to a stopped node, and no
+-- reply in flight is of one.
 pub record IsStateOf (w : World) (s : State) : Type 0 where
   pub cells : (n p : ℕ) (id : BlobId) → cells_of s.replicas n p id ≡ w.cells n p id
   pub sure : (n p : ℕ) → w.doubts n p ≡ None
-  pub running : (n : ℕ) → w.stopped n ≡ false
-  pub given : w.waiting ≡ []
+  pub stopped : (n : ℕ) → w.stopped n ≡ is_among s.stopped n
+  pub waits : AllShow w.waiting s.queue
   pub clock : w.clock ≡ s.clock
   pub sent : length w.sent ≡ s.sent
   pub answered : length w.replies ≡ s.answered
   pub requests : All (IsSent w.sent) s.requests
+  pub running : All (λ asked. is_among s.stopped asked.node ≡ false) s.requests
   pub replies : All (IsGiven w.replies) s.replies
+  pub answering : All (λ replied. is_among s.stopped replied.node ≡ false) s.replies
 
 -- what holds at any time
 pub record IsSound (s : State) : Type 0 where
   pub state : IsStateOf (told_world s.past) s
   pub few_requests : length s.requests ≤ s.sent
   pub few_replies : length s.replies ≤ s.answered
+  pub few_events : length s.queue < 2 ^ 32
   pub small_sent : s.sent < 2 ^ 32
   pub small_answered : s.answered < 2 ^ 32
   pub shape : (shape : Shape) → s.shape ≡ Some shape → IsShape shape
@@ -84,15 +102,18 @@ replied_number replied = replied.number
 
 -- the state as a network
 abbrev pub network_of : State → Network
-network_of s = record { shape = s.shape; calls = calls_of s.past; requests = map asked_number s.requests; replies = map replied_number s.replies }
+network_of s = record { shape = s.shape; calls = calls_of s.past; requests = map asked_number s.requests; replies = map replied_number s.replies; queue = s.queue }
 
--- what the replicas hold: nothing is in doubt, and no node is stopped
+-- what the replicas hold, with which nodes are stopped: nothing is in doubt
 abbrev pub image_of : State → Image
-image_of s = record { cells = cells_of s.replicas; doubts = λ n p. None; stopped = λ n. false }
+image_of s = record { cells = cells_of s.replicas; doubts = λ n p. None; stopped = is_among s.stopped }
 
--- what is told stays a run that leads to what the replicas hold
+-- what is told is a run from these cells that leads to what the replicas hold
+abbrev pub RunsFrom : State → Cells → Type 0
+RunsFrom s opening = LeadsTo opening (calls_of s.past) (image_of s)
+
 abbrev pub KeepsState : State → State → Type 0
-KeepsState old new = KeepsRun (Some (calls_of old.past)) (Some (image_of old)) (Some (calls_of new.past)) (Some (image_of new))
+KeepsState old new = KeepsRun (RunsFrom old) (RunsFrom new)
 
 -- the frame of a request asks this
 abbrev pub AskedAs : Option Asked → Question → Type 0

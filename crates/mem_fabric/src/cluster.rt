@@ -1,14 +1,20 @@
 //! The nodes and what is in flight between them and the router.
 
-ghost use Rattle.std.specs.Prelude.{false, ◌≡◌, ◌<◌, ◌≤◌, length, vec_len, Some, OnOk, OnErr, IfOk, IfSome};
-ghost use Rattle.mem_fabric.specs.Network.{Network, nothing, after_open, after_send, after_move, moved, ticked, dropped, dropped_reply, handed, quiet, taken, is_node, broken, cut, Makes, Does, Within};
+ghost use Rattle.std.specs.Prelude.{false, true, ◌≡◌, ◌<◌, [], ◌∷◌, length, Some, OnOk, OnErr, IfOk, IfSome};
+ghost use Rattle.mem_fabric.specs.Network.{nothing, after_open, after_steps, after_send, after_stop, after_given, after_move, ticked, dropped, dropped_reply, handed, quiet, taken, is_node, is_stopped, broken, cut, halted, stops, resumed, restarts, Makes, Does, Obeys, IsOldest, Within};
 ghost use Rattle.mem_fabric.specs.Sound.{State, fresh_state, network_of, KeepsState, QuestionAt, RunsRequest};
 ghost use Rattle.mem_fabric.specs.Past.{calls_of};
-ghost use Rattle.world_model.specs.Fabric.{Awaits};
+ghost use Rattle.world_model.specs.declared.order.Order.{Order};
+ghost use Rattle.world_model.specs.declared.order.Told.{Told};
+ghost use Rattle.world_model.specs.declared.step.Step.{Step};
+ghost use Rattle.world_model.specs.Fabric.{Awaits, TakesOrder};
 ghost use Rattle.world_model.specs.Shape.{IsShape};
 
 use crate::asking::{Question, question_in};
-use crate::flight::{Asked, Replied, add, drop_asked, drop_replied, place_among, push, take_out};
+use crate::flight::{
+    Asked, Replied, add, drop_asked, drop_replied, is_among, place_among, push, silence, take_node,
+    take_out,
+};
 use crate::past::Past;
 use crate::replicas::Replicas;
 use blob_id::{Bytes, Memory};
@@ -16,16 +22,19 @@ use req_frame::{Body, Frame, encode};
 use std::alloc::Global;
 use std::marker::Model;
 use std::snapshot::Snapshot;
-use world_model::{Event, Move, Shape};
+use world_model::{Event, Move, Order, Shape, Told};
 
-/// The nodes with their replicas, what is in flight, how many requests were sent and replies given, the clock, and what was told.
+/// The nodes with their replicas, those that are stopped, what is in flight, the events that wait to be given, how many requests
+/// were sent and replies given, the clock, and what was told.
 #[derive(Drop)]
 pub struct Cluster {
     alloc: Global,
     shape: Option<Shape>,
     replicas: Replicas,
+    stopped: Vec<u32>,
     requests: Vec<Asked>,
     replies: Vec<Replied>,
+    queue: Vec<Event>,
     sent: u32,
     answered: u32,
     clock: u64,
@@ -45,8 +54,10 @@ impl Model for Cluster {
     ghost view = { λ a. record {
       shape = a.shape;
       replicas = a.replicas;
+      stopped = a.stopped.items;
       requests = a.requests.items;
       replies = a.replies.items;
+      queue = a.queue.items;
       sent = a.sent;
       answered = a.answered;
       clock = a.clock;
@@ -56,8 +67,10 @@ impl Model for Cluster {
     ghost invariant = { λ a. IsSound (record {
       shape = a.shape;
       replicas = a.replicas;
+      stopped = a.stopped.items;
       requests = a.requests.items;
       replies = a.replies.items;
+      queue = a.queue.items;
       sent = a.sent;
       answered = a.answered;
       clock = a.clock;
@@ -74,8 +87,10 @@ impl Cluster {
             alloc,
             shape: None,
             replicas: Replicas::new(alloc),
+            stopped: Vec::new(alloc),
             requests: Vec::new(alloc),
             replies: Vec::new(alloc),
+            queue: Vec::new(alloc),
             sent: 0,
             answered: 0,
             clock: 0,
@@ -105,13 +120,14 @@ impl Cluster {
         self.shape
     }
 
-    /// How many events were made and not given: none, since each is given at once.
+    /// How many events wait to be given.
     pub fn queued(&self) -> u32
-        ensures { Awaits (Some (calls_of self.now.past)) result }
+        ensures awaits { Awaits (Some (calls_of self.now.past)) result }
+        ensures count { result ≡ length self.now.queue }
     {
         // The past is looked at, so that a proof knows what holds of it.
         let _past = &self.past;
-        0
+        self.queue.len() as u32
     }
 
     /// How many requests are in flight.
@@ -128,8 +144,34 @@ impl Cluster {
         self.replies.len() as u32
     }
 
-    /// Sends a frame to a node.
+    /// Whether a node is stopped.
+    pub fn is_stopped(&self, node: u32) -> bool
+        ensures { result ≡ is_stopped (network_of self.now) node }
+    {
+        // The past is looked at, so that a proof knows what holds of it.
+        let _past = &self.past;
+        is_among(&self.stopped, node)
+    }
+
+    /// Tells that a frame wasn't sent to a stopped node.
+    pub fn refuse(&mut self, node: u32, frame: &[u8]) -> Result<(), Memory>
+        requires stopped { is_stopped (network_of self.old) node ≡ true }
+        ensures ok { OnOk result (network_of self.new ≡ after_send (network_of self.old) node frame.now) }
+        ensures err { OnErr result (self.new ≡ self.old) }
+        ensures run { KeepsState self.old self.new }
+    {
+        let frame = Bytes::copy_of(self.alloc, frame)?;
+        self.past = Past::Refused(
+            Snapshot::of(&self.past),
+            Snapshot::of(&node),
+            Snapshot::of(&frame),
+        );
+        Ok(())
+    }
+
+    /// Sends a frame to a node that runs.
     pub fn send(&mut self, node: u32, frame: &[u8]) -> Result<(), Memory>
+        requires running { is_stopped (network_of self.old) node ≡ false }
         ensures ok { OnOk result (network_of self.new ≡ after_send (network_of self.old) node frame.now) }
         ensures err { OnErr result (self.new ≡ self.old) }
         ensures run { KeepsState self.old self.new }
@@ -157,8 +199,102 @@ impl Cluster {
         Ok(())
     }
 
+    /// Gives the oldest event that waits.
+    pub fn give(&mut self) -> Event
+        requires { 0 < length self.old.queue }
+        ensures oldest { IsOldest self.old.queue result }
+        ensures network { network_of self.new ≡ after_given (network_of self.old) result }
+        ensures run { KeepsState self.old self.new }
+    {
+        let event = self.queue.remove(0);
+        self.past = Past::Gave(Snapshot::of(&self.past), Snapshot::of(&event));
+        event
+    }
+
+    /// Stops a node that runs, by an order.
+    fn stop(&mut self, node: u32) -> Result<Told, Memory>
+        requires { is_stopped (network_of self.old) node ≡ false }
+        ensures done { IfOk result (λ answer. answer ≡ Told.Done) }
+        ensures ok { OnOk result (network_of self.new ≡ after_stop (network_of self.old) node) }
+        ensures err { OnErr result (self.new ≡ self.old) }
+        ensures run { KeepsState self.old self.new }
+    {
+        // The number of events that wait has to fit the answer of `queued`.
+        if self.queue.len() >= 4294967295 {
+            return Err(Memory);
+        }
+        self.queue.reserve(1)?;
+        self.stopped.reserve(1)?;
+        silence(
+            &mut self.stopped,
+            &mut self.requests,
+            &mut self.replies,
+            node,
+        );
+        add(&mut self.queue, Event::Broken { node });
+        self.past = Past::Ordered(
+            Snapshot::of(&self.past),
+            Snapshot::of(&Order::Stop(node)),
+            Snapshot::of(&Told::Done),
+        );
+        Ok(Told::Done)
+    }
+
+    /// Lets a stopped node run again, by an order.
+    fn restart(&mut self, node: u32) -> Told
+        requires { is_stopped (network_of self.old) node ≡ true }
+        ensures done { result ≡ Told.Done }
+        ensures network { network_of self.new ≡ after_steps (network_of self.old) (Step.Restart node [] ∷ []) }
+        ensures run { KeepsState self.old self.new }
+    {
+        take_node(&mut self.stopped, node);
+        self.past = Past::Ordered(
+            Snapshot::of(&self.past),
+            Snapshot::of(&Order::Restart(node)),
+            Snapshot::of(&Told::Done),
+        );
+        Told::Done
+    }
+
+    /// The node of an order is in that state already.
+    fn stay(&mut self, order: Order) -> Told
+        ensures already { result ≡ Told.Already }
+        ensures network { network_of self.new ≡ after_steps (network_of self.old) [] }
+        ensures run { KeepsState self.old self.new }
+    {
+        self.past = Past::Ordered(
+            Snapshot::of(&self.past),
+            Snapshot::of(&order),
+            Snapshot::of(&Told::Already),
+        );
+        Told::Already
+    }
+
+    /// Stops a node, or lets it run again.
+    pub fn obey(&mut self, order: Order) -> Result<Told, Memory>
+        requires { TakesOrder self.old.shape order }
+        ensures obeys { IfOk result (λ answer. Obeys (network_of self.old) order answer (network_of self.new)) }
+        ensures err { OnErr result (self.new ≡ self.old) }
+        ensures run { KeepsState self.old self.new }
+    {
+        match order {
+            Order::Stop(node) => if self.is_stopped(node) {
+                Ok(self.stay(order))
+            } else {
+                self.stop(node)
+            },
+            Order::Restart(node) => if self.is_stopped(node) {
+                Ok(self.restart(node))
+            } else {
+                Ok(self.stay(order))
+            },
+            _ => unreachable!(),
+        }
+    }
+
     /// So many ms go by.
     fn tick(&mut self, ms: u64) -> Event
+        requires calm { self.old.queue ≡ [] }
         ensures made { (ticked (network_of self.old) ms).event ≡ result }
         ensures network { network_of self.new ≡ after_move (network_of self.old) (ticked (network_of self.old) ms) }
         ensures run { KeepsState self.old self.new }
@@ -194,7 +330,8 @@ impl Cluster {
 
     /// The reply at a place comes.
     fn hand(&mut self, place: usize, stays: bool) -> Result<Event, Memory>
-        requires { place < length self.old.replies }
+        requires calm { self.old.queue ≡ [] }
+        requires place { place < length self.old.replies }
         ensures made { IfOk result (λ event. (handed (network_of self.old) (Some place) stays).event ≡ event) }
         ensures network { OnOk result (network_of self.new ≡ after_move (network_of self.old) (handed (network_of self.old) (Some place) stays)) }
         ensures err { OnErr result (self.new ≡ self.old) }
@@ -226,6 +363,7 @@ impl Cluster {
 
     /// The connection to a node breaks: what is in flight between it and the router is lost.
     fn break_off(&mut self, node: u32) -> Event
+        requires calm { self.old.queue ≡ [] }
         ensures broken { result ≡ Event.Broken node }
         ensures network { network_of self.new ≡ after_move (network_of self.old) (broken (network_of self.old) node) }
         ensures run { KeepsState self.old self.new }
@@ -298,7 +436,8 @@ impl Cluster {
 
     /// The request at a place is run, or a move on nothing is done.
     fn run_at(&mut self, place: Option<usize>, stays: bool) -> Result<Event, Memory>
-        requires { Within place (length self.old.requests) }
+        requires calm { self.old.queue ≡ [] }
+        requires place { Within place (length self.old.requests) }
         ensures made { IfOk result (λ event. RunsRequest self.old place stays event self.new) }
         ensures err { OnErr result (self.new ≡ self.old) }
         ensures run { KeepsState self.old self.new }
@@ -311,7 +450,8 @@ impl Cluster {
 
     /// The request at a place is lost, or a move on nothing is done.
     fn drop_at(&mut self, place: Option<usize>) -> Event
-        requires { Within place (length self.old.requests) }
+        requires calm { self.old.queue ≡ [] }
+        requires place { Within place (length self.old.requests) }
         ensures made { (dropped (network_of self.old) place).event ≡ result }
         ensures network { network_of self.new ≡ after_move (network_of self.old) (dropped (network_of self.old) place) }
         ensures run { KeepsState self.old self.new }
@@ -324,7 +464,8 @@ impl Cluster {
 
     /// The reply at a place comes, or a move on nothing is done.
     fn hand_at(&mut self, place: Option<usize>, stays: bool) -> Result<Event, Memory>
-        requires { Within place (length self.old.replies) }
+        requires calm { self.old.queue ≡ [] }
+        requires place { Within place (length self.old.replies) }
         ensures made { IfOk result (λ event. (handed (network_of self.old) place stays).event ≡ event) }
         ensures network { OnOk result (network_of self.new ≡ after_move (network_of self.old) (handed (network_of self.old) place stays)) }
         ensures err { OnErr result (self.new ≡ self.old) }
@@ -338,7 +479,8 @@ impl Cluster {
 
     /// The reply at a place is lost, or a move on nothing is done.
     fn drop_reply_at(&mut self, place: Option<usize>) -> Event
-        requires { Within place (length self.old.replies) }
+        requires calm { self.old.queue ≡ [] }
+        requires place { Within place (length self.old.replies) }
         ensures made { (dropped_reply (network_of self.old) place).event ≡ result }
         ensures network { network_of self.new ≡ after_move (network_of self.old) (dropped_reply (network_of self.old) place) }
         ensures run { KeepsState self.old self.new }
@@ -351,6 +493,7 @@ impl Cluster {
 
     /// The connection to a node breaks, or a move on nothing is done.
     fn cut_at(&mut self, node: u32) -> Event
+        requires calm { self.old.queue ≡ [] }
         ensures made { (cut (network_of self.old) node).event ≡ result }
         ensures network { network_of self.new ≡ after_move (network_of self.old) (cut (network_of self.old) node) }
         ensures run { KeepsState self.old self.new }
@@ -362,8 +505,70 @@ impl Cluster {
         }
     }
 
+    /// A node that runs stops, by a move: what is in flight between it and the router is lost.
+    fn halt(&mut self, node: u32) -> Result<Event, Memory>
+        requires calm { self.old.queue ≡ [] }
+        requires running { is_stopped (network_of self.old) node ≡ false }
+        ensures broken { IfOk result (λ event. event ≡ Event.Broken node) }
+        ensures network { OnOk result (network_of self.new ≡ after_move (network_of self.old) (halted (network_of self.old) node)) }
+        ensures err { OnErr result (self.new ≡ self.old) }
+        ensures run { KeepsState self.old self.new }
+    {
+        self.stopped.reserve(1)?;
+        silence(
+            &mut self.stopped,
+            &mut self.requests,
+            &mut self.replies,
+            node,
+        );
+        self.past = Past::Stopped(Snapshot::of(&self.past), Snapshot::of(&node));
+        Ok(Event::Broken { node })
+    }
+
+    /// A node stops, or a move on nothing is done.
+    fn stop_at(&mut self, node: u32) -> Result<Event, Memory>
+        requires calm { self.old.queue ≡ [] }
+        ensures made { IfOk result (λ event. (stops (network_of self.old) node).event ≡ event) }
+        ensures network { OnOk result (network_of self.new ≡ after_move (network_of self.old) (stops (network_of self.old) node)) }
+        ensures err { OnErr result (self.new ≡ self.old) }
+        ensures run { KeepsState self.old self.new }
+    {
+        if self.is_node(node) && !self.is_stopped(node) {
+            self.halt(node)
+        } else {
+            Ok(self.tick(0))
+        }
+    }
+
+    /// A stopped node runs again, by a move.
+    fn resume(&mut self, node: u32) -> Event
+        requires { is_stopped (network_of self.old) node ≡ true }
+        ensures quiet { result ≡ Event.Quiet }
+        ensures network { network_of self.new ≡ after_move (network_of self.old) (resumed (network_of self.old) node) }
+        ensures run { KeepsState self.old self.new }
+    {
+        take_node(&mut self.stopped, node);
+        self.past = Past::Restarted(Snapshot::of(&self.past), Snapshot::of(&node));
+        Event::Quiet
+    }
+
+    /// A stopped node runs again, or a move on nothing is done.
+    fn restart_at(&mut self, node: u32) -> Event
+        requires calm { self.old.queue ≡ [] }
+        ensures made { (restarts (network_of self.old) node).event ≡ result }
+        ensures network { network_of self.new ≡ after_move (network_of self.old) (restarts (network_of self.old) node) }
+        ensures run { KeepsState self.old self.new }
+    {
+        if self.is_node(node) && self.is_stopped(node) {
+            self.resume(node)
+        } else {
+            self.tick(0)
+        }
+    }
+
     /// Does one move.
     pub fn act(&mut self, chosen: Move) -> Result<Event, Memory>
+        requires calm { self.old.queue ≡ [] }
         ensures does { Does (network_of self.old) chosen (network_of self.new) result }
         ensures err { OnErr result (self.new ≡ self.old) }
         ensures run { KeepsState self.old self.new }
@@ -379,9 +584,9 @@ impl Cluster {
             Move::DropReply(k) => Ok(self.drop_reply_at(place_among(k, replies))),
             Move::Tick(ms) => Ok(self.tick(ms)),
             Move::Cut(node) => Ok(self.cut_at(node)),
-            Move::Stop(_) | Move::Restart(_) | Move::Pull(_, _, _) | Move::Compact(_, _) => Ok(
-                self.tick(0),
-            ),
+            Move::Stop(node) => self.stop_at(node),
+            Move::Restart(node) => Ok(self.restart_at(node)),
+            Move::Pull(_, _, _) | Move::Compact(_, _) => Ok(self.tick(0)),
         }
     }
 }

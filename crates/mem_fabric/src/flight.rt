@@ -2,6 +2,7 @@
 
 ghost use Rattle.std.specs.Prelude.{◌≡◌, ◌<◌, ◌++◌, ◌∷◌, [], ◌==◌, not, filter, vec_len, vec_capacity, OnOk, OnErr};
 ghost use Rattle.mem_fabric.specs.Network.{Within, place_among, taken};
+ghost use Rattle.mem_fabric.specs.Sound.{is_among};
 
 use blob_id::{Bytes, Memory};
 use req_frame::Frame;
@@ -73,4 +74,35 @@ pub fn drop_replied(replies: &mut Vec<Replied>, node: u32)
     ensures { replies.new.items ≡ filter (λ replied. not (replied.node == node)) replies.old.items }
 {
     replies.retain(|replied| replied.node != node);
+}
+
+/// Whether a node is one of these.
+pub fn is_among(nodes: &[u32], node: u32) -> bool
+    ensures { result ≡ is_among nodes.now node }
+{
+    nodes.iter().any(|other| node == *other)
+}
+
+/// Takes a node out.
+pub fn take_node(nodes: &mut Vec<u32>, node: u32)
+    ensures { nodes.new.items ≡ filter (λ other. not (other == node)) nodes.old.items }
+{
+    nodes.retain(|other| *other != node);
+}
+
+/// Stops a node, for whose number there is room: what is in flight between it and the router is lost.
+pub fn silence(
+    stopped: &mut Vec<u32>,
+    requests: &mut Vec<Asked>,
+    replies: &mut Vec<Replied>,
+    node: u32,
+)
+    requires { vec_len stopped.old < vec_capacity stopped.old }
+    ensures stopped { stopped.new.items ≡ stopped.old.items ++ node ∷ [] }
+    ensures requests { requests.new.items ≡ filter (λ asked. not (asked.node == node)) requests.old.items }
+    ensures replies { replies.new.items ≡ filter (λ replied. not (replied.node == node)) replies.old.items }
+{
+    drop_asked(requests, node);
+    drop_replied(replies, node);
+    add(stopped, node);
 }

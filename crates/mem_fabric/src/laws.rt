@@ -11,8 +11,8 @@ use crate::fabric::MemFabric;
 use world_model::{Fabric, Moves};
 
 /// Where a network that was never opened became one that is open for a shape, and this a later one, each by calls that were
-/// answered, the calls told are those of the opening, of sends, and of the moves that were given meanwhile, each made once, in
-/// order and by the rule of moves.
+/// answered, the calls told are those of the opening, of sends, of orders, of events that waited, and of the moves that were given
+/// meanwhile, each made once, in order and by the rule of moves, and the schedule wasn't begun anew.
 pub fn what_is_told_was_played<M: Moves>()
     ensures { (a b d : MemFabric M) (shape : Shape) (calls : List Called)
         → ⟦<MemFabric<M> as Fabric>⟧.fresh a ≡ true
@@ -20,5 +20,5 @@ pub fn what_is_told_was_played<M: Moves>()
         → ⟦<MemFabric<M> as Fabric>⟧.opened b ≡ Some shape
         → ⟦<MemFabric<M> as Fabric>⟧.goes b d
         → ⟦<MemFabric<M> as Fabric>⟧.told d ≡ Some calls
-        → (moves : List Move) × (M.given d.moves ≡ M.given a.moves ++ moves) × IsPlayed shape moves calls }
+        → (moves : List Move) × (M.given d.moves ≡ M.given a.moves ++ moves) × IsPlayed shape moves calls × (M.seeds d.moves ≡ M.seeds a.moves) }
 {}

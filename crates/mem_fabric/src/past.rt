@@ -3,6 +3,7 @@
 use blob_id::Bytes;
 use cell_model::Reply;
 use std::snapshot::Snapshot;
+use world_model::{Event, Order, Told};
 
 /// What was told, call by call, the last one outside. It has no bytes: only clauses read it.
 #[derive(Drop)]
@@ -22,4 +23,14 @@ pub enum Past {
     Handed(Snapshot<Past>, Snapshot<u32>, Snapshot<u32>, Snapshot<Bytes>),
     /// The connection to a node broke.
     Cut(Snapshot<Past>, Snapshot<u32>),
+    /// A request to a stopped node.
+    Refused(Snapshot<Past>, Snapshot<u32>, Snapshot<Bytes>),
+    /// A move stopped a node.
+    Stopped(Snapshot<Past>, Snapshot<u32>),
+    /// A move let a node run again.
+    Restarted(Snapshot<Past>, Snapshot<u32>),
+    /// An order was answered so.
+    Ordered(Snapshot<Past>, Snapshot<Order>, Snapshot<Told>),
+    /// An event that waited was given.
+    Gave(Snapshot<Past>, Snapshot<Event>),
 }

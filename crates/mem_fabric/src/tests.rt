@@ -7,7 +7,7 @@ ghost use Rattle.world_model.specs.Fabric.{HasNode};
 use super::*;
 use std::alloc::Global;
 use std::test::Fail;
-use world_model::{Event, Fabric, ListMoves, LogNumbers, Move, Shape};
+use world_model::{Event, Fabric, ListMoves, LogNumbers, Move, Order, SendFault, Shape, Told};
 
 /// A put of the blob of created 5, type `t`, metadata 09 and body 01 02 under the first simple id of partition 0, as request 1 of operation 2.
 const PUT: [u8; 57] = [
@@ -114,6 +114,41 @@ fn send<F: Fabric>(net: &mut F, node: u32, frame: &[u8]) -> Result<(), Fail>
     Ok(())
 }
 
+/// What comes of a frame that is sent to a node of an open network.
+#[tactic(auto, using(crate::proofs::TestLemmas::lesser_node))]
+fn try_send<F: Fabric>(net: &mut F, node: u32, frame: &[u8]) -> Result<(), SendFault>
+    requires nodes { HasNode (F.opened net.old) 3 }
+    requires some { 1 ≤ node }
+    requires most { node ≤ 3 }
+    ensures { HasNode (F.opened net.new) 3 }
+{
+    net.send(node, frame)
+}
+
+/// Orders that a node stops.
+#[tactic(auto, using(crate::proofs::TestLemmas::lesser_node))]
+fn stop<F: Fabric>(net: &mut F, node: u32) -> Result<Told, Fail>
+    requires nodes { HasNode (F.opened net.old) 3 }
+    requires some { 1 ≤ node }
+    requires most { node ≤ 3 }
+    ensures { HasNode (F.opened net.new) 3 }
+{
+    let told = net.admin(&Order::Stop(node))?;
+    Ok(told)
+}
+
+/// Orders that a node runs again.
+#[tactic(auto, using(crate::proofs::TestLemmas::lesser_node))]
+fn restart<F: Fabric>(net: &mut F, node: u32) -> Result<Told, Fail>
+    requires nodes { HasNode (F.opened net.old) 3 }
+    requires some { 1 ≤ node }
+    requires most { node ≤ 3 }
+    ensures { HasNode (F.opened net.new) 3 }
+{
+    let told = net.admin(&Order::Restart(node))?;
+    Ok(told)
+}
+
 /// The next event of an open network.
 #[tactic(auto, using(crate::proofs::TestLemmas::is_open))]
 fn next<F: Fabric>(net: &mut F) -> Result<Event, Fail>
@@ -191,7 +226,7 @@ fn a_move_on_nothing_is_now(rt: HostRuntime) -> Result<(), Fail> {
     let moves = vec![in rt.alloc();
         Move::Hand(3),
         Move::Run(0),
-        Move::Stop(1),
+        Move::Stop(4),
         Move::Tick(7),
         Move::Restart(1),
         Move::Tick(18446744073709551615),
@@ -279,6 +314,81 @@ fn what_asks_nothing_has_no_reply(rt: HostRuntime) -> Result<(), Fail> {
     send(&mut net, 1, &STORED)?;
     assert_eq!(rt; words_of(&next(&mut net)?), Said::Quiet);
     assert_eq!(rt; words_of(&next(&mut net)?), Said::Quiet);
+    assert_eq!(rt; words_of(&next(&mut net)?), Said::Now(1000));
+    Ok(())
+}
+
+#[test]
+fn a_node_that_an_order_stopped_holds_what_it_held(rt: HostRuntime) -> Result<(), Fail> {
+    let mut net = opened(rt.alloc(), 3, Vec::new(rt.alloc()))?;
+    send(&mut net, 1, &PUT)?;
+    assert_eq!(rt; words_of(&next(&mut net)?), Said::Quiet);
+    assert_eq!(rt; words_of(&next(&mut net)?), Said::Reply(1, &STORED));
+    assert_eq!(rt; stop(&mut net, 1)?, Told::Done);
+    assert_eq!(rt; try_send(&mut net, 1, &GET), Err(SendFault::Failed));
+    assert_eq!(rt; words_of(&next(&mut net)?), Said::Broken(1));
+    assert_eq!(rt; words_of(&next(&mut net)?), Said::Now(1000));
+    assert_eq!(rt; restart(&mut net, 1)?, Told::Done);
+    send(&mut net, 1, &GET)?;
+    assert_eq!(rt; words_of(&next(&mut net)?), Said::Quiet);
+    assert_eq!(rt; words_of(&next(&mut net)?), Said::Reply(1, &BLOB));
+    Ok(())
+}
+
+#[test]
+fn a_move_stops_a_node_and_another_lets_it_run_again(rt: HostRuntime) -> Result<(), Fail> {
+    let moves = vec![in rt.alloc();
+        Move::Run(0),
+        Move::Run(0),
+        Move::Stop(1),
+        Move::Stop(1),
+        Move::Hand(0),
+        Move::Restart(1),
+        Move::Restart(1),
+    ]?;
+    let mut net = opened(rt.alloc(), 3, moves)?;
+    send(&mut net, 1, &PUT)?;
+    send(&mut net, 2, &PUT)?;
+    send(&mut net, 1, &GET)?;
+    assert_eq!(rt; words_of(&next(&mut net)?), Said::Quiet);
+    assert_eq!(rt; words_of(&next(&mut net)?), Said::Quiet);
+    assert_eq!(rt; words_of(&next(&mut net)?), Said::Broken(1));
+    assert_eq!(rt; words_of(&next(&mut net)?), Said::Now(0));
+    assert_eq!(rt; words_of(&next(&mut net)?), Said::Reply(2, &STORED));
+    assert_eq!(rt; try_send(&mut net, 1, &GET), Err(SendFault::Failed));
+    assert_eq!(rt; words_of(&next(&mut net)?), Said::Quiet);
+    assert_eq!(rt; words_of(&next(&mut net)?), Said::Now(0));
+    send(&mut net, 1, &GET)?;
+    assert_eq!(rt; words_of(&next(&mut net)?), Said::Quiet);
+    assert_eq!(rt; words_of(&next(&mut net)?), Said::Reply(1, &BLOB));
+    Ok(())
+}
+
+#[test]
+fn events_that_wait_come_before_the_next_move(rt: HostRuntime) -> Result<(), Fail> {
+    let moves = vec![in rt.alloc(); Move::Tick(7)]?;
+    let mut net = opened(rt.alloc(), 3, moves)?;
+    send(&mut net, 2, &PUT)?;
+    assert_eq!(rt; stop(&mut net, 2)?, Told::Done);
+    assert_eq!(rt; stop(&mut net, 3)?, Told::Done);
+    assert_eq!(rt; net.queued(), 2);
+    assert_eq!(rt; words_of(&next(&mut net)?), Said::Broken(2));
+    assert_eq!(rt; net.queued(), 1);
+    assert_eq!(rt; words_of(&next(&mut net)?), Said::Broken(3));
+    assert_eq!(rt; net.queued(), 0);
+    assert_eq!(rt; words_of(&next(&mut net)?), Said::Now(7));
+    assert_eq!(rt; words_of(&next(&mut net)?), Said::Now(1007));
+    Ok(())
+}
+
+#[test]
+fn an_order_for_the_state_that_a_node_is_in_does_nothing(rt: HostRuntime) -> Result<(), Fail> {
+    let mut net = opened(rt.alloc(), 3, Vec::new(rt.alloc()))?;
+    assert_eq!(rt; restart(&mut net, 2)?, Told::Already);
+    assert_eq!(rt; stop(&mut net, 2)?, Told::Done);
+    assert_eq!(rt; stop(&mut net, 2)?, Told::Already);
+    assert_eq!(rt; net.queued(), 1);
+    assert_eq!(rt; words_of(&next(&mut net)?), Said::Broken(2));
     assert_eq!(rt; words_of(&next(&mut net)?), Said::Now(1000));
     Ok(())
 }

@@ -1,8 +1,8 @@
 use Rattle.std.proofs.Common.{◌≡◌, None, refl, ap, sym, ◌∙◌, subst, inl, inr}
 use Rattle.cell_model.specs.declared.ask.Reply.{Reply}
-use Rattle.mem_fabric.specs.Network.{Makes, Does, place_among, runs, moved, ticked, cut}
+use Rattle.mem_fabric.specs.Network.{Makes, Does, place_among, runs, moved, ticked, cut, restarts}
 use Rattle.mem_fabric.specs.Sound.{network_of}
-use Rattle.mem_fabric.proofs.Acts.{drop_makes, drop_reply_makes, hand_does, hand_again_does, makes}
+use Rattle.mem_fabric.proofs.Acts.{drop_makes, drop_reply_makes, hand_does, hand_again_does, stop_does, makes}
 use Rattle.mem_fabric.proofs.cluster.Cluster.act.Goals as goal
 
 pub returns-in-Drop-clause-does : goal.returns-in-Drop-clause-does
@@ -30,16 +30,18 @@ returns-in-Cut-clause-does c = makes c.args.self.now c.cut_at.new.self c.args.ch
     (rw c.in-Cut.is refl) (rw c.in-Cut.is refl) c.cut_at.ensures.made c.cut_at.ensures.network
 
 pub returns-in-Stop-clause-does : goal.returns-in-Stop-clause-does
-returns-in-Stop-clause-does c =
+returns-in-Stop-clause-does c = subst (λ m. Does (network_of c.args.self.now) m (network_of c.stop_at.new.self) c.stop_at.result) (sym c.in-Stop.is)
+    (stop_does c.args.self.now c.stop_at.new.self c.in-Stop.node c.stop_at.result c.stop_at.ensures.made c.stop_at.ensures.network c.stop_at.ensures.err)
+
+pub returns-in-Restart-clause-does : goal.returns-in-Restart-clause-does
+returns-in-Restart-clause-does c = makes c.args.self.now c.restart_at.new.self c.args.chosen (restarts (network_of c.args.self.now) c.in-Restart.node) c.restart_at.result
+    (rw c.in-Restart.is refl) (rw c.in-Restart.is refl) c.restart_at.ensures.made c.restart_at.ensures.network
+
+pub returns-in-Pull-clause-does : goal.returns-in-Pull-clause-does
+returns-in-Pull-clause-does c =
     let n = network_of c.args.self.now in
-    let both : (runs n c.args.chosen ≡ None) × (moved n Reply.Memory c.args.chosen ≡ ticked n 0) = elim c.in-Stop.is [
-      | inl stop ↦ (rw stop.1 refl, rw stop.1 refl)
-      | inr h ↦ elim h [
-        | inl restart ↦ (rw restart.1 refl, rw restart.1 refl)
-        | inr k ↦ elim k [
-          | inl pull ↦ (rw pull.3 refl, rw pull.3 refl)
-          | inr compact ↦ (rw compact.2 refl, rw compact.2 refl)
-        ]
-      ]
+    let both : (runs n c.args.chosen ≡ None) × (moved n Reply.Memory c.args.chosen ≡ ticked n 0) = elim c.in-Pull.is [
+      | inl pull ↦ (rw pull.3 refl, rw pull.3 refl)
+      | inr compact ↦ (rw compact.2 refl, rw compact.2 refl)
     ] in
-    makes c.args.self.now c.tick-in-Stop.new.self c.args.chosen (ticked n 0) c.tick-in-Stop.result both.0 both.1 c.tick-in-Stop.ensures.made c.tick-in-Stop.ensures.network
+    makes c.args.self.now c.tick-in-Pull.new.self c.args.chosen (ticked n 0) c.tick-in-Pull.result both.0 both.1 c.tick-in-Pull.ensures.made c.tick-in-Pull.ensures.network

@@ -17,8 +17,10 @@ invariant_of-self-2 c =
     let old : State = record {
       shape = c.self.inside.shape;
       replicas = c.self.inside.replicas;
+      stopped = c.self.inside.stopped.items;
       requests = c.self.inside.requests.items;
       replies = c.self.inside.replies.items;
+      queue = c.self.inside.queue.items;
       sent = c.self.inside.sent;
       answered = c.self.inside.answered;
       clock = c.self.inside.clock;
@@ -32,11 +34,11 @@ invariant_of-self-2 c =
     let told_is : calls_of past ≡ record { steps = Step.Exec asked.number reply ∷ []; given = Some Event.Quiet } ∷ calls_of c.self.inside.past = ran_as c.of-2.ensures c.of-3.ensures (ap (λ (p : Past). calls_of p) c.of.ensures) in
     let within : c.args.place < length old.requests = subst (λ (s : State). c.args.place < length s.requests) (sym c.self.view_is) c.requires.place in
     let added : c.add.new.items.items ≡ old.replies ++ replied ∷ [] = c.add.ensures ∙ ap (λ (l : List Replied). l ++ replied ∷ []) c.reserve.ensures.items in
-    let more : c.in-Some.answered ≡ old.answered + 1 = omega arith in
+    let more : c.in-Some.answered ≡ old.answered + 1 = omega (arith, c.in-Some.ensures) in
     let question : QuestionAt old c.args.place c.args.question = subst (λ (s : State). QuestionAt s c.args.place c.args.question) (sym c.self.view_is) c.requires.asked in
     let steps : RunsSoundly old c.args.place c.args.stays new =
     steps_answered old c.args.place c.args.stays asked c.args.question reply c.ask-reply.new.self c.take_out.new.items.items c.add.new.items.items past c.in-Some.answered c.self.invariant
-    within c.index-request.ensures question c.ask-reply.ensures.asked c.ask-reply.ensures.range more (omega arith) c.take_out.ensures added told_is in
+    within c.index-request.ensures question c.ask-reply.ensures.asked c.ask-reply.ensures.range more (omega (arith, c.in-Some.ensures)) c.take_out.ensures added told_is in
     steps.sound
 
 pub returns-clause-made : goal.returns-clause-made
@@ -44,8 +46,10 @@ returns-clause-made c =
     let old : State = record {
       shape = c.self.inside.shape;
       replicas = c.self.inside.replicas;
+      stopped = c.self.inside.stopped.items;
       requests = c.self.inside.requests.items;
       replies = c.self.inside.replies.items;
+      queue = c.self.inside.queue.items;
       sent = c.self.inside.sent;
       answered = c.self.inside.answered;
       clock = c.self.inside.clock;
@@ -59,11 +63,11 @@ returns-clause-made c =
     let told_is : calls_of past ≡ record { steps = Step.Exec asked.number reply ∷ []; given = Some Event.Quiet } ∷ calls_of c.self.inside.past = ran_as c.of-2.ensures c.of-3.ensures (ap (λ (p : Past). calls_of p) c.of.ensures) in
     let within : c.args.place < length old.requests = subst (λ (s : State). c.args.place < length s.requests) (sym c.self.view_is) c.requires.place in
     let added : c.add.new.items.items ≡ old.replies ++ replied ∷ [] = c.add.ensures ∙ ap (λ (l : List Replied). l ++ replied ∷ []) c.reserve.ensures.items in
-    let more : c.in-Some.answered ≡ old.answered + 1 = omega arith in
+    let more : c.in-Some.answered ≡ old.answered + 1 = omega (arith, c.in-Some.ensures) in
     let question : QuestionAt old c.args.place c.args.question = subst (λ (s : State). QuestionAt s c.args.place c.args.question) (sym c.self.view_is) c.requires.asked in
     let steps : RunsSoundly old c.args.place c.args.stays new =
     steps_answered old c.args.place c.args.stays asked c.args.question reply c.ask-reply.new.self c.take_out.new.items.items c.add.new.items.items past c.in-Some.answered c.self.invariant
-    within c.index-request.ensures question c.ask-reply.ensures.asked c.ask-reply.ensures.range more (omega arith) c.take_out.ensures added told_is in
+    within c.index-request.ensures question c.ask-reply.ensures.asked c.ask-reply.ensures.range more (omega (arith, c.in-Some.ensures)) c.take_out.ensures added told_is in
     subst (λ (s : State). RunsRequest s (Some c.args.place) c.args.stays Event.Quiet new) c.self.view_is steps.runs
 
 pub returns-clause-run : goal.returns-clause-run
@@ -71,8 +75,10 @@ returns-clause-run c =
     let old : State = record {
       shape = c.self.inside.shape;
       replicas = c.self.inside.replicas;
+      stopped = c.self.inside.stopped.items;
       requests = c.self.inside.requests.items;
       replies = c.self.inside.replies.items;
+      queue = c.self.inside.queue.items;
       sent = c.self.inside.sent;
       answered = c.self.inside.answered;
       clock = c.self.inside.clock;
@@ -86,9 +92,9 @@ returns-clause-run c =
     let told_is : calls_of past ≡ record { steps = Step.Exec asked.number reply ∷ []; given = Some Event.Quiet } ∷ calls_of c.self.inside.past = ran_as c.of-2.ensures c.of-3.ensures (ap (λ (p : Past). calls_of p) c.of.ensures) in
     let within : c.args.place < length old.requests = subst (λ (s : State). c.args.place < length s.requests) (sym c.self.view_is) c.requires.place in
     let added : c.add.new.items.items ≡ old.replies ++ replied ∷ [] = c.add.ensures ∙ ap (λ (l : List Replied). l ++ replied ∷ []) c.reserve.ensures.items in
-    let more : c.in-Some.answered ≡ old.answered + 1 = omega arith in
+    let more : c.in-Some.answered ≡ old.answered + 1 = omega (arith, c.in-Some.ensures) in
     let question : QuestionAt old c.args.place c.args.question = subst (λ (s : State). QuestionAt s c.args.place c.args.question) (sym c.self.view_is) c.requires.asked in
     let steps : RunsSoundly old c.args.place c.args.stays new =
     steps_answered old c.args.place c.args.stays asked c.args.question reply c.ask-reply.new.self c.take_out.new.items.items c.add.new.items.items past c.in-Some.answered c.self.invariant
-    within c.index-request.ensures question c.ask-reply.ensures.asked c.ask-reply.ensures.range more (omega arith) c.take_out.ensures added told_is in
+    within c.index-request.ensures question c.ask-reply.ensures.asked c.ask-reply.ensures.range more (omega (arith, c.in-Some.ensures)) c.take_out.ensures added told_is in
     subst (λ (s : State). KeepsState s new) c.self.view_is steps.run

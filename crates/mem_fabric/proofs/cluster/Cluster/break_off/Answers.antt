@@ -17,8 +17,10 @@ invariant_of-self c =
     let old : State = record {
       shape = c.self.inside.shape;
       replicas = c.self.inside.replicas;
+      stopped = c.self.inside.stopped.items;
       requests = c.self.inside.requests.items;
       replies = c.self.inside.replies.items;
+      queue = c.self.inside.queue.items;
       sent = c.self.inside.sent;
       answered = c.self.inside.answered;
       clock = c.self.inside.clock;
@@ -26,11 +28,12 @@ invariant_of-self c =
     } in
     let past : Past = views.Cut c.of.result c.of-2.result in
     let new : State = record old { requests = c.drop_asked.new.requests.items; replies = c.drop_replied.new.replies.items; past = past } in
+    let calm : old.queue ≡ [] = subst (λ (s : State). s.queue ≡ []) (sym c.self.view_is) c.requires.calm in
     let told_is : calls_of past ≡ record { steps = Step.Cut c.args.node ∷ []; given = Some (Event.Broken c.args.node) } ∷ calls_of c.self.inside.past = cc in
     let steps : Steps old new (broken (network_of old) c.args.node) =
     subst (λ (l : List Replied). Steps old (record old { requests = c.drop_asked.new.requests.items; replies = l; past = past }) (broken (network_of old) c.args.node)) (sym c.drop_replied.ensures)
     (subst (λ (l : List Asked). Steps old (record old { requests = l; replies = filter (replied_elsewhere c.args.node) old.replies; past = past }) (broken (network_of old) c.args.node)) (sym c.drop_asked.ensures)
-    (steps_cut old c.args.node past c.self.invariant told_is)) in
+    (steps_cut old c.args.node past c.self.invariant calm told_is)) in
     steps.sound
 
 pub returns-clause-network : goal.returns-clause-network
@@ -38,8 +41,10 @@ returns-clause-network c =
     let old : State = record {
       shape = c.self.inside.shape;
       replicas = c.self.inside.replicas;
+      stopped = c.self.inside.stopped.items;
       requests = c.self.inside.requests.items;
       replies = c.self.inside.replies.items;
+      queue = c.self.inside.queue.items;
       sent = c.self.inside.sent;
       answered = c.self.inside.answered;
       clock = c.self.inside.clock;
@@ -47,11 +52,12 @@ returns-clause-network c =
     } in
     let past : Past = views.Cut c.of.result c.of-2.result in
     let new : State = record old { requests = c.drop_asked.new.requests.items; replies = c.drop_replied.new.replies.items; past = past } in
+    let calm : old.queue ≡ [] = subst (λ (s : State). s.queue ≡ []) (sym c.self.view_is) c.requires.calm in
     let told_is : calls_of past ≡ record { steps = Step.Cut c.args.node ∷ []; given = Some (Event.Broken c.args.node) } ∷ calls_of c.self.inside.past = cc in
     let steps : Steps old new (broken (network_of old) c.args.node) =
     subst (λ (l : List Replied). Steps old (record old { requests = c.drop_asked.new.requests.items; replies = l; past = past }) (broken (network_of old) c.args.node)) (sym c.drop_replied.ensures)
     (subst (λ (l : List Asked). Steps old (record old { requests = l; replies = filter (replied_elsewhere c.args.node) old.replies; past = past }) (broken (network_of old) c.args.node)) (sym c.drop_asked.ensures)
-    (steps_cut old c.args.node past c.self.invariant told_is)) in
+    (steps_cut old c.args.node past c.self.invariant calm told_is)) in
     subst (λ (s : State). network_of new ≡ after_move (network_of s) (broken (network_of s) c.args.node)) c.self.view_is steps.network
 
 pub returns-clause-run : goal.returns-clause-run
@@ -59,8 +65,10 @@ returns-clause-run c =
     let old : State = record {
       shape = c.self.inside.shape;
       replicas = c.self.inside.replicas;
+      stopped = c.self.inside.stopped.items;
       requests = c.self.inside.requests.items;
       replies = c.self.inside.replies.items;
+      queue = c.self.inside.queue.items;
       sent = c.self.inside.sent;
       answered = c.self.inside.answered;
       clock = c.self.inside.clock;
@@ -68,9 +76,10 @@ returns-clause-run c =
     } in
     let past : Past = views.Cut c.of.result c.of-2.result in
     let new : State = record old { requests = c.drop_asked.new.requests.items; replies = c.drop_replied.new.replies.items; past = past } in
+    let calm : old.queue ≡ [] = subst (λ (s : State). s.queue ≡ []) (sym c.self.view_is) c.requires.calm in
     let told_is : calls_of past ≡ record { steps = Step.Cut c.args.node ∷ []; given = Some (Event.Broken c.args.node) } ∷ calls_of c.self.inside.past = cc in
     let steps : Steps old new (broken (network_of old) c.args.node) =
     subst (λ (l : List Replied). Steps old (record old { requests = c.drop_asked.new.requests.items; replies = l; past = past }) (broken (network_of old) c.args.node)) (sym c.drop_replied.ensures)
     (subst (λ (l : List Asked). Steps old (record old { requests = l; replies = filter (replied_elsewhere c.args.node) old.replies; past = past }) (broken (network_of old) c.args.node)) (sym c.drop_asked.ensures)
-    (steps_cut old c.args.node past c.self.invariant told_is)) in
+    (steps_cut old c.args.node past c.self.invariant calm told_is)) in
     subst (λ (s : State). KeepsState s new) c.self.view_is steps.run

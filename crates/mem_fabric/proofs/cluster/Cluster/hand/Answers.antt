@@ -15,8 +15,10 @@ invariant_of-self c =
     let old : State = record {
       shape = c.self.inside.shape;
       replicas = c.self.inside.replicas;
+      stopped = c.self.inside.stopped.items;
       requests = c.self.inside.requests.items;
       replies = c.self.inside.replies.items;
+      queue = c.self.inside.queue.items;
       sent = c.self.inside.sent;
       answered = c.self.inside.answered;
       clock = c.self.inside.clock;
@@ -27,12 +29,13 @@ invariant_of-self c =
     let event : Event = Event.Reply replied.node bytes in
     let past : Past = views.Handed c.of.result c.of-2.result c.of-3.result c.of-4.result in
     let new : State = record old { replies = c.take_out.new.items.items; past = past } in
+    let calm : old.queue ≡ [] = subst (λ (s : State). s.queue ≡ []) (sym c.self.view_is) c.requires.calm in
     let told_is : calls_of past ≡ record { steps = Step.Hand replied.number ∷ []; given = Some event } ∷ calls_of c.self.inside.past = cc in
-    let within : c.args.place < length old.replies = subst (λ (s : State). c.args.place < length s.replies) (sym c.self.view_is) c.requires in
+    let within : c.args.place < length old.replies = subst (λ (s : State). c.args.place < length s.replies) (sym c.self.view_is) c.requires.place in
     let move : State → Moved = λ s. handed (network_of s) (Some c.args.place) c.args.stays in
     let steps : Hands old new c.args.place c.args.stays event =
     subst (λ (l : List Replied). Hands old (record old { replies = l; past = past }) c.args.place c.args.stays event) (sym c.take_out.ensures)
-    (steps_handed old c.args.place c.args.stays replied bytes past c.self.invariant within c.index-reply.ensures c.in_ok-frame.ensures.spelled c.in_ok-frame.ensures.read told_is) in
+    (steps_handed old c.args.place c.args.stays replied bytes past c.self.invariant calm within c.index-reply.ensures c.in_ok-frame.ensures.spelled c.in_ok-frame.ensures.read told_is) in
     steps.steps.sound
 
 pub returns-clause-made : goal.returns-clause-made
@@ -40,8 +43,10 @@ returns-clause-made c =
     let old : State = record {
       shape = c.self.inside.shape;
       replicas = c.self.inside.replicas;
+      stopped = c.self.inside.stopped.items;
       requests = c.self.inside.requests.items;
       replies = c.self.inside.replies.items;
+      queue = c.self.inside.queue.items;
       sent = c.self.inside.sent;
       answered = c.self.inside.answered;
       clock = c.self.inside.clock;
@@ -52,12 +57,13 @@ returns-clause-made c =
     let event : Event = Event.Reply replied.node bytes in
     let past : Past = views.Handed c.of.result c.of-2.result c.of-3.result c.of-4.result in
     let new : State = record old { replies = c.take_out.new.items.items; past = past } in
+    let calm : old.queue ≡ [] = subst (λ (s : State). s.queue ≡ []) (sym c.self.view_is) c.requires.calm in
     let told_is : calls_of past ≡ record { steps = Step.Hand replied.number ∷ []; given = Some event } ∷ calls_of c.self.inside.past = cc in
-    let within : c.args.place < length old.replies = subst (λ (s : State). c.args.place < length s.replies) (sym c.self.view_is) c.requires in
+    let within : c.args.place < length old.replies = subst (λ (s : State). c.args.place < length s.replies) (sym c.self.view_is) c.requires.place in
     let move : State → Moved = λ s. handed (network_of s) (Some c.args.place) c.args.stays in
     let steps : Hands old new c.args.place c.args.stays event =
     subst (λ (l : List Replied). Hands old (record old { replies = l; past = past }) c.args.place c.args.stays event) (sym c.take_out.ensures)
-    (steps_handed old c.args.place c.args.stays replied bytes past c.self.invariant within c.index-reply.ensures c.in_ok-frame.ensures.spelled c.in_ok-frame.ensures.read told_is) in
+    (steps_handed old c.args.place c.args.stays replied bytes past c.self.invariant calm within c.index-reply.ensures c.in_ok-frame.ensures.spelled c.in_ok-frame.ensures.read told_is) in
     subst (λ (s : State). (move s).event ≡ event) c.self.view_is steps.gave
 
 pub returns-clause-network : goal.returns-clause-network
@@ -65,8 +71,10 @@ returns-clause-network c =
     let old : State = record {
       shape = c.self.inside.shape;
       replicas = c.self.inside.replicas;
+      stopped = c.self.inside.stopped.items;
       requests = c.self.inside.requests.items;
       replies = c.self.inside.replies.items;
+      queue = c.self.inside.queue.items;
       sent = c.self.inside.sent;
       answered = c.self.inside.answered;
       clock = c.self.inside.clock;
@@ -77,12 +85,13 @@ returns-clause-network c =
     let event : Event = Event.Reply replied.node bytes in
     let past : Past = views.Handed c.of.result c.of-2.result c.of-3.result c.of-4.result in
     let new : State = record old { replies = c.take_out.new.items.items; past = past } in
+    let calm : old.queue ≡ [] = subst (λ (s : State). s.queue ≡ []) (sym c.self.view_is) c.requires.calm in
     let told_is : calls_of past ≡ record { steps = Step.Hand replied.number ∷ []; given = Some event } ∷ calls_of c.self.inside.past = cc in
-    let within : c.args.place < length old.replies = subst (λ (s : State). c.args.place < length s.replies) (sym c.self.view_is) c.requires in
+    let within : c.args.place < length old.replies = subst (λ (s : State). c.args.place < length s.replies) (sym c.self.view_is) c.requires.place in
     let move : State → Moved = λ s. handed (network_of s) (Some c.args.place) c.args.stays in
     let steps : Hands old new c.args.place c.args.stays event =
     subst (λ (l : List Replied). Hands old (record old { replies = l; past = past }) c.args.place c.args.stays event) (sym c.take_out.ensures)
-    (steps_handed old c.args.place c.args.stays replied bytes past c.self.invariant within c.index-reply.ensures c.in_ok-frame.ensures.spelled c.in_ok-frame.ensures.read told_is) in
+    (steps_handed old c.args.place c.args.stays replied bytes past c.self.invariant calm within c.index-reply.ensures c.in_ok-frame.ensures.spelled c.in_ok-frame.ensures.read told_is) in
     subst (λ (s : State). network_of new ≡ after_move (network_of s) (move s)) c.self.view_is steps.steps.network
 
 pub returns-clause-run : goal.returns-clause-run
@@ -90,8 +99,10 @@ returns-clause-run c =
     let old : State = record {
       shape = c.self.inside.shape;
       replicas = c.self.inside.replicas;
+      stopped = c.self.inside.stopped.items;
       requests = c.self.inside.requests.items;
       replies = c.self.inside.replies.items;
+      queue = c.self.inside.queue.items;
       sent = c.self.inside.sent;
       answered = c.self.inside.answered;
       clock = c.self.inside.clock;
@@ -102,10 +113,11 @@ returns-clause-run c =
     let event : Event = Event.Reply replied.node bytes in
     let past : Past = views.Handed c.of.result c.of-2.result c.of-3.result c.of-4.result in
     let new : State = record old { replies = c.take_out.new.items.items; past = past } in
+    let calm : old.queue ≡ [] = subst (λ (s : State). s.queue ≡ []) (sym c.self.view_is) c.requires.calm in
     let told_is : calls_of past ≡ record { steps = Step.Hand replied.number ∷ []; given = Some event } ∷ calls_of c.self.inside.past = cc in
-    let within : c.args.place < length old.replies = subst (λ (s : State). c.args.place < length s.replies) (sym c.self.view_is) c.requires in
+    let within : c.args.place < length old.replies = subst (λ (s : State). c.args.place < length s.replies) (sym c.self.view_is) c.requires.place in
     let move : State → Moved = λ s. handed (network_of s) (Some c.args.place) c.args.stays in
     let steps : Hands old new c.args.place c.args.stays event =
     subst (λ (l : List Replied). Hands old (record old { replies = l; past = past }) c.args.place c.args.stays event) (sym c.take_out.ensures)
-    (steps_handed old c.args.place c.args.stays replied bytes past c.self.invariant within c.index-reply.ensures c.in_ok-frame.ensures.spelled c.in_ok-frame.ensures.read told_is) in
+    (steps_handed old c.args.place c.args.stays replied bytes past c.self.invariant calm within c.index-reply.ensures c.in_ok-frame.ensures.spelled c.in_ok-frame.ensures.read told_is) in
     subst (λ (s : State). KeepsState s new) c.self.view_is steps.steps.run

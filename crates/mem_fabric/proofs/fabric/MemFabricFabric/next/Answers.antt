@@ -1,25 +1,20 @@
-use Rattle.std.proofs.Common.{◌∙◌, ◌++◌, ◌∷◌, [], ap}
+use Rattle.std.proofs.Common.{refl}
+use Rattle.mem_fabric.specs.PlayedLaws.{falls_as_plays}
 use Rattle.mem_fabric.specs.Sound.{network_of}
-use Rattle.mem_fabric.proofs.Playing.{plays_next, falls_next, most_next, has_shape}
+use Rattle.mem_fabric.proofs.Playing.{plays_given}
 use Rattle.mem_fabric.proofs.fabric.MemFabricFabric.next.Goals as goal
 
-pub returns-clause-goes : goal.returns-clause-goes
-returns-clause-goes g c =
-    plays_next (g.M.Moves.given c.args.self.now.moves) (g.M.Moves.given c.pick-chosen.new.self) (network_of c.args.self.now.cluster) (network_of c.act.new.self) c.pick-chosen.result c.act.result
-    (g.M.Moves.same c.args.self.now.moves c.pick-chosen.new.self)
-    (has_shape c.args.self.now.opened c.args.self.now.cluster.shape c.requires.open) c.act.ensures.does
-    (c.pick-chosen.ensures.given ∙ ap (λ l. l ++ c.pick-chosen.result ∷ []) c.in_ok-ready.ensures.given)
-    (g.met.M.Moves.same_on c.args.self.now.moves c.ready.new.self c.pick-chosen.new.self c.in_ok-ready.ensures.same c.pick-chosen.ensures.same)
-
-pub returns-clause-falls : goal.returns-clause-falls
-returns-clause-falls g c = (
-  falls_next (g.M.Moves.given c.args.self.now.moves) (g.M.Moves.given c.pick-chosen.new.self) (network_of c.args.self.now.cluster) (network_of c.act.new.self) c.pick-chosen.result c.act.result
-      (has_shape c.args.self.now.opened c.args.self.now.cluster.shape c.requires.open) c.act.ensures.does
-      (c.pick-chosen.ensures.given ∙ ap (λ l. l ++ c.pick-chosen.result ∷ []) c.in_ok-ready.ensures.given),
-  g.met.M.Moves.same_on c.args.self.now.moves c.ready.new.self c.pick-chosen.new.self c.in_ok-ready.ensures.same c.pick-chosen.ensures.same,
+pub returns-else-queued-eq0-clause-goes : goal.returns-else-queued-eq0-clause-goes
+returns-else-queued-eq0-clause-goes g c = (
+  plays_given (g.M.Moves.given c.args.self.now.moves) (network_of c.args.self.now.cluster) (network_of c.give.new.self) c.give.result c.give.ensures.oldest c.give.ensures.network,
+  g.met.M.Moves.same_self c.args.self.now.moves,
+  refl,
 )
 
-pub returns-clause-most : goal.returns-clause-most
-returns-clause-most g c =
-    most_next (g.M.Moves.given c.args.self.now.moves) (g.M.Moves.given c.pick-chosen.new.self) c.pick-chosen.result c.act.result
-    (c.pick-chosen.ensures.given ∙ ap (λ l. l ++ c.pick-chosen.result ∷ []) c.in_ok-ready.ensures.given)
+pub returns-else-queued-eq0-clause-falls : goal.returns-else-queued-eq0-clause-falls
+returns-else-queued-eq0-clause-falls g c = (
+  falls_as_plays (g.M.Moves.given c.args.self.now.moves) (network_of c.args.self.now.cluster) (g.M.Moves.given c.args.self.now.moves) (network_of c.give.new.self)
+      (plays_given (g.M.Moves.given c.args.self.now.moves) (network_of c.args.self.now.cluster) (network_of c.give.new.self) c.give.result c.give.ensures.oldest c.give.ensures.network),
+  g.met.M.Moves.same_self c.args.self.now.moves,
+  refl,
+)

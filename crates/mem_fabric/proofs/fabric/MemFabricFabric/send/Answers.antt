@@ -1,3 +1,4 @@
+use Rattle.std.proofs.Common.{refl}
 use Rattle.mem_fabric.specs.PlayedLaws.{falls_as_plays}
 use Rattle.mem_fabric.specs.Sound.{network_of}
 use Rattle.mem_fabric.proofs.Playing.{plays_send, has_node}
@@ -5,15 +6,34 @@ use Rattle.mem_fabric.proofs.fabric.MemFabricFabric.send.Goals as goal
 
 pub returns-in-Ok-clause-goes : goal.returns-in-Ok-clause-goes
 returns-in-Ok-clause-goes g c = λ _. (
-  plays_send (g.M.Moves.given c.args.self.now.moves) (network_of c.args.self.now.cluster) (network_of c.send.new.self) c.args.node c.args.frame.now
+  plays_send (g.M.Moves.given c.args.self.now.moves) (network_of c.args.self.now.cluster) (network_of c.refuse.new.self) c.args.node c.args.frame.now
       (has_node c.args.self.now.opened c.args.self.now.cluster.shape c.args.node c.requires.node) c.in-Ok.ensures.ok,
   g.met.M.Moves.same_self c.args.self.now.moves,
+  refl,
 )
 
 pub returns-in-Ok-clause-falls : goal.returns-in-Ok-clause-falls
 returns-in-Ok-clause-falls g c = (
-  falls_as_plays (g.M.Moves.given c.args.self.now.moves) (network_of c.args.self.now.cluster) (g.M.Moves.given c.args.self.now.moves) (network_of c.send.new.self)
-      (plays_send (g.M.Moves.given c.args.self.now.moves) (network_of c.args.self.now.cluster) (network_of c.send.new.self) c.args.node c.args.frame.now
+  falls_as_plays (g.M.Moves.given c.args.self.now.moves) (network_of c.args.self.now.cluster) (g.M.Moves.given c.args.self.now.moves) (network_of c.refuse.new.self)
+      (plays_send (g.M.Moves.given c.args.self.now.moves) (network_of c.args.self.now.cluster) (network_of c.refuse.new.self) c.args.node c.args.frame.now
       (has_node c.args.self.now.opened c.args.self.now.cluster.shape c.args.node c.requires.node) c.in-Ok.ensures.ok),
   g.met.M.Moves.same_self c.args.self.now.moves,
+  refl,
+)
+
+pub returns-in-Ok-send-clause-goes : goal.returns-in-Ok-send-clause-goes
+returns-in-Ok-send-clause-goes g c = λ _. (
+  plays_send (g.M.Moves.given c.args.self.now.moves) (network_of c.args.self.now.cluster) (network_of c.send.new.self) c.args.node c.args.frame.now
+      (has_node c.args.self.now.opened c.args.self.now.cluster.shape c.args.node c.requires.node) c.in-Ok-send.ensures.ok,
+  g.met.M.Moves.same_self c.args.self.now.moves,
+  refl,
+)
+
+pub returns-in-Ok-send-clause-falls : goal.returns-in-Ok-send-clause-falls
+returns-in-Ok-send-clause-falls g c = (
+  falls_as_plays (g.M.Moves.given c.args.self.now.moves) (network_of c.args.self.now.cluster) (g.M.Moves.given c.args.self.now.moves) (network_of c.send.new.self)
+      (plays_send (g.M.Moves.given c.args.self.now.moves) (network_of c.args.self.now.cluster) (network_of c.send.new.self) c.args.node c.args.frame.now
+      (has_node c.args.self.now.opened c.args.self.now.cluster.shape c.args.node c.requires.node) c.in-Ok-send.ensures.ok),
+  g.met.M.Moves.same_self c.args.self.now.moves,
+  refl,
 )
