@@ -28,23 +28,23 @@ abbrev pub Went : Shape → List Move → List Move → List Called → Type 0
 Went shape given given' calls = (moves : List Move) × (given' ≡ given ++ moves) × IsPlayed shape moves calls
 
 pub ran_finished : (shape : Shape) (router : RouterView) (given given' : List Move) (calls : List Called) (status status' : ℕ) (o : Outside) → RunsAreSafe → router.shape ≡ shape → Went shape given given' calls → Run nothing_held (told calls) → status' ≡ status
-    → HasFinished shape.partitions (ties_of router (Some calls)) status o → HasRun shape given given' status' o
+    → HasFinished shape (ties_of router (Some calls)) status o → HasRun shape given given' status' o
 ran_finished shape router given given' calls status status' o safe same went run is h =
     subst (λ (n : ℕ). HasRun shape given given' n o) (sym is)
     (inl (record { moves = went.0; gave = went.1; run = inl (finished_map _ _ _ status o (λ marks w. recorded shape router went.0 calls marks safe same went.2 run w) h) }))
 
 pub ran_stopped : (shape : Shape) (router : RouterView) (given given' : List Move) (calls : List Called) (status : ℕ) (o : Outside) → RunsAreSafe → router.shape ≡ shape → Went shape given given' calls → Run nothing_held (told calls) → status ≡ 3
-    → HasStopped shape.partitions (ties_of router (Some calls)) o o.words_new → HasRun shape given given' status o
+    → HasStopped shape (ties_of router (Some calls)) o o.words_new → HasRun shape given given' status o
 ran_stopped shape router given given' calls status o safe same went run is h =
     inl (record { moves = went.0; gave = went.1; run = inr (inl (is, stopped_map _ _ _ o o.words_new (λ marks w. recorded shape router went.0 calls marks safe same went.2 run w) h)) })
 
 pub ran_cut : (shape : Shape) (router : RouterView) (given given' : List Move) (calls : List Called) (status : ℕ) (o : Outside) → RunsAreSafe → router.shape ≡ shape → Went shape given given' calls → Run nothing_held (told calls) → status ≡ 4
-    → WasCutOff shape.partitions (ties_of router (Some calls)) o → HasRun shape given given' status o
+    → WasCutOff shape (ties_of router (Some calls)) o → HasRun shape given given' status o
 ran_cut shape router given given' calls status o safe same went run is h =
     inl (record { moves = went.0; gave = went.1; run = inr (inr (is, cut_map _ _ _ o (λ marks w. recorded shape router went.0 calls marks safe same went.2 run w) h)) })
 
 pub ran_starved : (shape : Shape) (router : RouterView) (given between fallen given' fell closed : List Move) (calls : List Called) (words : Option (ℕ → ℕ)) (status : ℕ) (o : Outside) → RunsAreSafe → router.shape ≡ shape → Went shape given between calls
-    → Run nothing_held (told calls) → fallen ≡ between ++ fell → given' ≡ fallen ++ closed → status ≡ 6 → HasStopped shape.partitions (ties_of router (Some calls)) o words → HasRun shape given given' status o
+    → Run nothing_held (told calls) → fallen ≡ between ++ fell → given' ≡ fallen ++ closed → status ≡ 6 → HasStopped shape (ties_of router (Some calls)) o words → HasRun shape given given' status o
 ran_starved shape router given between fallen given' fell closed calls words status o safe same went run falls closes is h =
     inr (inl (
       is,

@@ -4,10 +4,13 @@ use Rattle.std.specs.Option.{option_flatten}
 use Rattle.std.proofs.lemmas.List.{append-nil, map-append}
 use Rattle.std.proofs.lemmas.Bool.Decides.{nat_tests}
 use Rattle.quorum_op.specs.declared.outcome.Outcome.{Outcome}
+use Rattle.world_model.specs.declared.history.HistoryMark.{HistoryMark}
 use Rattle.world_model.specs.declared.history.HistoryMark.TheVariants.{Begin, End, Wait}
+use Rattle.world_model.specs.declared.order.Order.{Order}
 use Rattle.front_end.specs.declared.history.Entry.{Entry}
-use Rattle.front_end.specs.declared.history.Entry.TheVariants.{Mark}
+use Rattle.front_end.specs.declared.history.Entry.TheVariants.{Mark, Bad, Failed}
 use Rattle.front_end.specs.Past.{answer_after, answer_in, answer_of, answer_or}
+use Rattle.router_core.specs.Fits.{RouterView}
 use Rattle.router_core.specs.Stands.{is_idle}
 use Rattle.front_end.specs.Outline.{outline_entry}
 use Rattle.front_end.specs.declared.tags.Tag.{Tag}
@@ -155,3 +158,32 @@ begun_line tags n r q = refl
 pub on_ok_map : {A E : Type 0} (r : Result A E) {P Q : Type 0} → (P → Q) → OnOk r P → OnOk r Q
 on_ok_map (Ok x) f p = f p
 on_ok_map (Err e) f p = tt
+
+pub on_ok_both : {A E : Type 0} (r : Result A E) {P Q R : Type 0} → (P → Q → R) → OnOk r P → OnOk r Q → OnOk r R
+on_ok_both (Ok x) f p q = f p q
+on_ok_both (Err e) f p q = tt
+
+-- another router, where it is as idle
+pub keeps_router : (s : Session) (router : RouterView) (state : State) → is_idle router.stage ≡ is_idle s.router.stage → Keeps s state → Keeps (record s { router = router }) state
+keeps_router s router state same k = record {
+  tags = k.tags;
+  busy = same ∙ k.busy;
+  some = k.some;
+  lines = k.lines;
+  bad = k.bad;
+  settled = k.settled;
+  later = k.later;
+  count = k.count;
+  answers = k.answers;
+}
+
+-- entries behind the same ones are told apart
+last_same : (xs : List Entry) (a b : Entry) → xs ++ a ∷ [] ≡ xs ++ b ∷ [] → a ≡ b
+last_same [] a b e = cc
+last_same (x ∷ xs) a b e = let more : xs ++ a ∷ [] ≡ xs ++ b ∷ [] = cc in last_same xs a b more
+
+pub mark_not_failed : (xs : List Entry) (m : HistoryMark) (order : Order) → xs ++ Mark m ∷ [] ≡ xs ++ Failed order ∷ [] → ⊥
+mark_not_failed xs m order e = let same : Mark m ≡ Failed order = last_same xs (Mark m) (Failed order) e in cc
+
+pub bad_not_failed : (xs : List Entry) (n : ℕ) (order : Order) → xs ++ Bad n ∷ [] ≡ xs ++ Failed order ∷ [] → ⊥
+bad_not_failed xs n order e = let same : Bad n ≡ Failed order = last_same xs (Bad n) (Failed order) e in cc

@@ -1,7 +1,7 @@
 -- What is kept of a history as it grows.
 use Rattle.std.proofs.Common.{◌≡◌, ℕ, List, [], ◌∷◌, ◌++◌, Option, refl, sym, ap, subst, ◌∙◌}
 use Rattle.world_model.specs.declared.history.HistoryMark.{HistoryMark}
-use Rattle.world_model.specs.declared.history.HistoryMark.TheVariants.{Begin, Drew, End, Wait, Cancel, Level, Drain}
+use Rattle.world_model.specs.declared.history.HistoryMark.TheVariants.{Begin, Drew, End, Wait, Cancel, Level, Drain, Ordered}
 use Rattle.front_end.specs.History.{DrawsNext, DrawsInOrder, newest_first}
 use Rattle.front_end.specs.Kept.{IsKept}
 
@@ -18,6 +18,7 @@ draws_last P (Wait t) first now no_draw d = d
 draws_last P (Cancel n) first now no_draw d = d
 draws_last P (Level q a b y) first now no_draw d = d
 draws_last P (Drain n y) first now no_draw d = d
+draws_last P (Ordered n y) first now no_draw d = d
 
 pub draws_other : (P : ℕ) (h : List HistoryMark) (m : HistoryMark) (first now : Option (ℕ → ℕ)) → IsNoDraw m → DrawsInOrder P first h now → DrawsInOrder P first (h ++ m ∷ []) now
 draws_other P [] m first now no_draw d = draws_last P m first now no_draw d
@@ -28,6 +29,7 @@ draws_other P (Wait t ∷ h) m first now no_draw d = draws_other P h m first now
 draws_other P (Cancel n ∷ h) m first now no_draw d = draws_other P h m first now no_draw d
 draws_other P (Level q a b y ∷ h) m first now no_draw d = draws_other P h m first now no_draw d
 draws_other P (Drain n y ∷ h) m first now no_draw d = draws_other P h m first now no_draw d
+draws_other P (Ordered n y ∷ h) m first now no_draw d = draws_other P h m first now no_draw d
 
 pub draws_more : (P : ℕ) (h : List HistoryMark) (n : ℕ) (id : List ℕ) (first now next : Option (ℕ → ℕ)) → DrawsInOrder P first h now → DrawsNext P now n id next
     → DrawsInOrder P first (h ++ Drew n id ∷ []) next
@@ -39,6 +41,7 @@ draws_more P (Wait t ∷ h) n id first now next d more = draws_more P h n id fir
 draws_more P (Cancel m ∷ h) n id first now next d more = draws_more P h n id first now next d more
 draws_more P (Level q a b y ∷ h) n id first now next d more = draws_more P h n id first now next d more
 draws_more P (Drain m y ∷ h) n id first now next d more = draws_more P h n id first now next d more
+draws_more P (Ordered m y ∷ h) n id first now next d more = draws_more P h n id first now next d more
 
 draws_wait : (P : ℕ) (a b : List HistoryMark) (t : Option ℕ) (first now : Option (ℕ → ℕ)) → DrawsInOrder P first (a ++ b) now → DrawsInOrder P first (a ++ Wait t ∷ b) now
 draws_wait P [] b t first now d = d
@@ -49,6 +52,7 @@ draws_wait P (Wait u ∷ a) b t first now d = draws_wait P a b t first now d
 draws_wait P (Cancel n ∷ a) b t first now d = draws_wait P a b t first now d
 draws_wait P (Level q x y z ∷ a) b t first now d = draws_wait P a b t first now d
 draws_wait P (Drain n y ∷ a) b t first now d = draws_wait P a b t first now d
+draws_wait P (Ordered n y ∷ a) b t first now d = draws_wait P a b t first now d
 
 -- the newest mark comes first
 abbrev pub IsNoWait : HistoryMark → Type 0
@@ -63,6 +67,7 @@ newest_last (End n o) no_wait = refl
 newest_last (Cancel n) no_wait = refl
 newest_last (Level q a b y) no_wait = refl
 newest_last (Drain n y) no_wait = refl
+newest_last (Ordered n y) no_wait = refl
 
 pub newest_with : (h : List HistoryMark) (m : HistoryMark) → IsNoWait m → newest_first (h ++ m ∷ []) ≡ m ∷ newest_first h
 newest_with [] m no_wait = newest_last m no_wait
@@ -73,6 +78,7 @@ newest_with (End n o ∷ h) m no_wait = ap (λ (t : List HistoryMark). t ++ End 
 newest_with (Cancel n ∷ h) m no_wait = ap (λ (t : List HistoryMark). t ++ Cancel n ∷ []) (newest_with h m no_wait)
 newest_with (Level q a b y ∷ h) m no_wait = ap (λ (t : List HistoryMark). t ++ Level q a b y ∷ []) (newest_with h m no_wait)
 newest_with (Drain n y ∷ h) m no_wait = ap (λ (t : List HistoryMark). t ++ Drain n y ∷ []) (newest_with h m no_wait)
+newest_with (Ordered n y ∷ h) m no_wait = ap (λ (t : List HistoryMark). t ++ Ordered n y ∷ []) (newest_with h m no_wait)
 
 newest_wait : (a b : List HistoryMark) (t : Option ℕ) → newest_first (a ++ Wait t ∷ b) ≡ newest_first (a ++ b)
 newest_wait [] b t = refl
@@ -83,6 +89,7 @@ newest_wait (End n o ∷ a) b t = ap (λ (x : List HistoryMark). x ++ End n o �
 newest_wait (Cancel n ∷ a) b t = ap (λ (x : List HistoryMark). x ++ Cancel n ∷ []) (newest_wait a b t)
 newest_wait (Level q y z u ∷ a) b t = ap (λ (x : List HistoryMark). x ++ Level q y z u ∷ []) (newest_wait a b t)
 newest_wait (Drain n y ∷ a) b t = ap (λ (x : List HistoryMark). x ++ Drain n y ∷ []) (newest_wait a b t)
+newest_wait (Ordered n y ∷ a) b t = ap (λ (x : List HistoryMark). x ++ Ordered n y ∷ []) (newest_wait a b t)
 
 -- one more mark, of which the tie learns
 pub kept_append : (P : ℕ) (h : List HistoryMark) (tie tie' : List HistoryMark → Type 0) (first now : Option (ℕ → ℕ)) (m : HistoryMark) → IsKept P h tie first now → IsNoDraw m → IsNoWait m

@@ -4,9 +4,9 @@ use Rattle.std.proofs.lemmas.List.{append-nil}
 use Rattle.std.specs.List.{AllByRecursion, Contains}
 use Rattle.quorum_op.specs.declared.outcome.Outcome.{Outcome}
 use Rattle.world_model.specs.declared.history.HistoryMark.{HistoryMark}
-use Rattle.world_model.specs.declared.history.HistoryMark.TheVariants.{Begin, Cancel, Drain, Drew, End, Level, Wait}
+use Rattle.world_model.specs.declared.history.HistoryMark.TheVariants.{Begin, Cancel, Drain, Drew, End, Level, Ordered, Wait}
 use Rattle.front_end.specs.declared.history.Entry.{Entry}
-use Rattle.front_end.specs.declared.history.Entry.TheVariants.{Mark, Bad}
+use Rattle.front_end.specs.declared.history.Entry.TheVariants.{Mark, Bad, Failed}
 use Rattle.front_end.specs.History.{Moment, after, after_all, without, IsOrdered}
 use Rattle.front_end.specs.Script.{Asked}
 use Rattle.front_end.specs.Past.{marks_of, is_later, is_wait, IsOwn, Follows, WaitsStandFirst}
@@ -38,6 +38,7 @@ pub marks_of-append : (a b : List Entry) → marks_of (a ++ b) ≡ marks_of a ++
 marks_of-append [] b = refl
 marks_of-append (Mark m ∷ a) b = ap (λ (t : List HistoryMark). m ∷ t) (marks_of-append a b)
 marks_of-append (Bad n ∷ a) b = marks_of-append a b
+marks_of-append (Failed o ∷ a) b = marks_of-append a b
 
 -- moments
 pub after_all-append : (now : Moment) (h k : List HistoryMark) → after_all now (h ++ k) ≡ after_all (after_all now h) k
@@ -87,6 +88,7 @@ ordered_waiting w now waiting (Mark (Begin n r) ∷ es) all is p = absurd cc
 ordered_waiting w now waiting (Mark (Cancel c0) ∷ es) all is p = absurd cc
 ordered_waiting w now waiting (Mark (Level l0 l1 l2 l3) ∷ es) all is p = absurd cc
 ordered_waiting w now waiting (Mark (Drain d0 d1) ∷ es) all is p = absurd cc
+ordered_waiting w now waiting (Mark (Ordered d0 d1) ∷ es) all is p = absurd cc
 ordered_waiting w now waiting (Mark (Drew n id) ∷ es) all is p =
     let rest = ordered_waiting w (after now (Drew n id)) (after waiting (Drew n id)) es all.1 (waiting_drew now waiting n id is) p.1 in
     ((subst (λ (xs : List ℕ). Contains xs n) (sym is.same_undrawn) p.0, rest.0), rest.1)
@@ -95,37 +97,38 @@ ordered_waiting w now waiting (Mark (End n o) ∷ es) all is p =
     (((subst (λ (xs : List ℕ). Contains xs n) (sym is.same_open) p.0.0, inl is.waits), rest.0), rest.1)
 ordered_waiting w now waiting (Mark (Wait t) ∷ es) all is p = absurd cc
 ordered_waiting w now waiting (Bad k ∷ es) all is p = absurd cc
+ordered_waiting w now waiting (Failed o ∷ es) all is p = absurd cc
 
 -- following the script
-pub follows_later : (before es : List Entry) (ls : List Asked) (e : Entry) → Follows before es ls → is_later e ≡ true → Follows before (es ++ e ∷ []) ls
-follows_later before [] ls e f later = rw later f
-follows_later before (x ∷ es) ls e f later =
-    match_map (is_later x) (λ g. follows_later (before ++ x ∷ []) es ls e g later)
-    (λ g. (g.0, g.1, g.2, g.3, follows_later (before ++ x ∷ []) es g.1 e g.4 later)) f
+pub follows_later : (nodes : ℕ) (before es : List Entry) (ls : List Asked) (e : Entry) → Follows nodes before es ls → is_later e ≡ true → Follows nodes before (es ++ e ∷ []) ls
+follows_later nodes before [] ls e f later = rw later f
+follows_later nodes before (x ∷ es) ls e f later =
+    match_map (is_later x) (λ g. follows_later nodes (before ++ x ∷ []) es ls e g later)
+    (λ g. (g.0, g.1, g.2, g.3, follows_later nodes (before ++ x ∷ []) es g.1 e g.4 later)) f
 
-pub follows_own : (before es : List Entry) (ls : List Asked) (e : Entry) (line : Asked) → Follows before es ls → is_later e ≡ false → IsOwn (before ++ es) line e → Follows before (es ++ e ∷ []) (ls ++ line ∷ [])
-follows_own before [] ls e line f own is =
-    rw own (line, [], ap (λ (t : List Asked). t ++ line ∷ []) f, subst (λ (b : List Entry). IsOwn b line e) (append-nil before) is, refl)
-follows_own before (x ∷ es) ls e line f own is =
-    let is' : IsOwn ((before ++ x ∷ []) ++ es) line e = subst (λ (b : List Entry). IsOwn b line e) (sym (append_assoc before (x ∷ []) es)) is in
-    match_map (is_later x) (λ g. follows_own (before ++ x ∷ []) es ls e line g own is')
-    (λ g. (g.0, g.1 ++ line ∷ [], ap (λ (t : List Asked). t ++ line ∷ []) g.2, g.3, follows_own (before ++ x ∷ []) es g.1 e line g.4 own is')) f
+pub follows_own : (nodes : ℕ) (before es : List Entry) (ls : List Asked) (e : Entry) (line : Asked) → Follows nodes before es ls → is_later e ≡ false → IsOwn nodes (before ++ es) line e → Follows nodes before (es ++ e ∷ []) (ls ++ line ∷ [])
+follows_own nodes before [] ls e line f own is =
+    rw own (line, [], ap (λ (t : List Asked). t ++ line ∷ []) f, subst (λ (b : List Entry). IsOwn nodes b line e) (append-nil before) is, refl)
+follows_own nodes before (x ∷ es) ls e line f own is =
+    let is' : IsOwn nodes ((before ++ x ∷ []) ++ es) line e = subst (λ (b : List Entry). IsOwn nodes b line e) (sym (append_assoc before (x ∷ []) es)) is in
+    match_map (is_later x) (λ g. follows_own nodes (before ++ x ∷ []) es ls e line g own is')
+    (λ g. (g.0, g.1 ++ line ∷ [], ap (λ (t : List Asked). t ++ line ∷ []) g.2, g.3, follows_own nodes (before ++ x ∷ []) es g.1 e line g.4 own is')) f
 
-later_asks_nothing : (before later : List Entry) (ls : List Asked) → AllByRecursion (λ e. is_later e ≡ true) later → Follows before later ls → ls ≡ []
-later_asks_nothing before [] ls all f = f
-later_asks_nothing before (x ∷ es) ls all f = let here = all.0 in later_asks_nothing (before ++ x ∷ []) es ls all.1 (rw here at f)
+later_asks_nothing : (nodes : ℕ) (before later : List Entry) (ls : List Asked) → AllByRecursion (λ e. is_later e ≡ true) later → Follows nodes before later ls → ls ≡ []
+later_asks_nothing nodes before [] ls all f = f
+later_asks_nothing nodes before (x ∷ es) ls all f = let here = all.0 in later_asks_nothing nodes (before ++ x ∷ []) es ls all.1 (rw here at f)
 
-later_follows : (before later : List Entry) → AllByRecursion (λ e. is_later e ≡ true) later → Follows before later []
-later_follows before [] all = refl
-later_follows before (x ∷ es) all = let here = all.0 in rw here (later_follows (before ++ x ∷ []) es all.1)
+later_follows : (nodes : ℕ) (before later : List Entry) → AllByRecursion (λ e. is_later e ≡ true) later → Follows nodes before later []
+later_follows nodes before [] all = refl
+later_follows nodes before (x ∷ es) all = let here = all.0 in rw here (later_follows nodes (before ++ x ∷ []) es all.1)
 
-pub follows_wait : (before settled later : List Entry) (ls : List Asked) (line : Asked) (t : Option ℕ) → AllByRecursion (λ e. is_later e ≡ true) later
-    → Follows before (settled ++ later) ls → ((b : List Entry) → IsOwn b line (Mark (Wait t))) → Follows before ((settled ++ Mark (Wait t) ∷ []) ++ later) (ls ++ line ∷ [])
-follows_wait before [] later ls line t all f own =
-    (line, [], ap (λ (t : List Asked). t ++ line ∷ []) (later_asks_nothing before later ls all f), own before, later_follows (before ++ Mark (Wait t) ∷ []) later all)
-follows_wait before (x ∷ es) later ls line t all f own =
-    match_map (is_later x) (λ g. follows_wait (before ++ x ∷ []) es later ls line t all g own)
-    (λ g. (g.0, g.1 ++ line ∷ [], ap (λ (t : List Asked). t ++ line ∷ []) g.2, g.3, follows_wait (before ++ x ∷ []) es later g.1 line t all g.4 own)) f
+pub follows_wait : (nodes : ℕ) (before settled later : List Entry) (ls : List Asked) (line : Asked) (t : Option ℕ) → AllByRecursion (λ e. is_later e ≡ true) later
+    → Follows nodes before (settled ++ later) ls → ((b : List Entry) → IsOwn nodes b line (Mark (Wait t))) → Follows nodes before ((settled ++ Mark (Wait t) ∷ []) ++ later) (ls ++ line ∷ [])
+follows_wait nodes before [] later ls line t all f own =
+    (line, [], ap (λ (t : List Asked). t ++ line ∷ []) (later_asks_nothing nodes before later ls all f), own before, later_follows nodes (before ++ Mark (Wait t) ∷ []) later all)
+follows_wait nodes before (x ∷ es) later ls line t all f own =
+    match_map (is_later x) (λ g. follows_wait nodes (before ++ x ∷ []) es later ls line t all g own)
+    (λ g. (g.0, g.1 ++ line ∷ [], ap (λ (t : List Asked). t ++ line ∷ []) g.2, g.3, follows_wait nodes (before ++ x ∷ []) es later g.1 line t all g.4 own)) f
 
 -- where waits stand
 pub waits_append : (front : Bool) (a b : List Entry) → WaitsStandFirst front a → WaitsStandFirst (front_after front a) b → WaitsStandFirst front (a ++ b)
@@ -145,10 +148,12 @@ later_is_no_wait (Mark (Begin n r)) h k = cc
 later_is_no_wait (Mark (Cancel c0)) h k = cc
 later_is_no_wait (Mark (Level l0 l1 l2 l3)) h k = cc
 later_is_no_wait (Mark (Drain d0 d1)) h k = cc
+later_is_no_wait (Mark (Ordered d0 d1)) h k = cc
 later_is_no_wait (Mark (Drew n id)) h k = cc
 later_is_no_wait (Mark (End n o)) h k = cc
 later_is_no_wait (Mark (Wait t)) h k = cc
 later_is_no_wait (Bad n) h k = cc
+later_is_no_wait (Failed o) h k = cc
 
 pub later_waits : (front : Bool) (later : List Entry) → AllByRecursion (λ e. is_later e ≡ true) later → WaitsStandFirst front later
 later_waits front [] all = tt

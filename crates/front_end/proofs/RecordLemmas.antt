@@ -64,8 +64,8 @@ recorded shape router moves calls marks safe same played run w =
     }
 
 -- a tie seen otherwise
-pub finished_map : (P : ℕ) (tie tie' : List HistoryMark → Type 0) (status : ℕ) (o : Outside) → ((marks : List HistoryMark) → tie marks → tie' marks) → HasFinished P tie status o → HasFinished P tie' status o
-finished_map P tie tie' status o f h = record {
+pub finished_map : (shape : Shape) (tie tie' : List HistoryMark → Type 0) (status : ℕ) (o : Outside) → ((marks : List HistoryMark) → tie marks → tie' marks) → HasFinished shape tie status o → HasFinished shape tie' status o
+finished_map shape tie tie' status o f h = record {
   lines = h.lines;
   entries = h.entries;
   ending = h.ending;
@@ -79,9 +79,9 @@ finished_map P tie tie' status o f h = record {
   tied = f _ h.tied;
 }
 
-pub stopped_map : (P : ℕ) (tie tie' : List HistoryMark → Type 0) (o : Outside) (words : Option (ℕ → ℕ)) → ((marks : List HistoryMark) → tie marks → tie' marks) → HasStopped P tie o words → HasStopped P tie' o words
-stopped_map P tie tie' o words f h =
+pub stopped_map : (shape : Shape) (tie tie' : List HistoryMark → Type 0) (o : Outside) (words : Option (ℕ → ℕ)) → ((marks : List HistoryMark) → tie marks → tie' marks) → HasStopped shape tie o words → HasStopped shape tie' o words
+stopped_map shape tie tie' o words f h =
     record { lines = h.lines; entries = h.entries; past = h.past; ended_last = h.ended_last; read = h.read; wrote = h.wrote; draws = h.draws; tied = f _ h.tied }
 
-pub cut_map : (P : ℕ) (tie tie' : List HistoryMark → Type 0) (o : Outside) → ((marks : List HistoryMark) → tie marks → tie' marks) → WasCutOff P tie o → WasCutOff P tie' o
-cut_map P tie tie' o f h = record { lines = h.lines; entries = h.entries; past = h.past; ended_last = h.ended_last; read = h.read; wrote = h.wrote; draws = h.draws; tied = f _ h.tied }
+pub cut_map : (shape : Shape) (tie tie' : List HistoryMark → Type 0) (o : Outside) → ((marks : List HistoryMark) → tie marks → tie' marks) → WasCutOff shape tie o → WasCutOff shape tie' o
+cut_map shape tie tie' o f h = record { lines = h.lines; entries = h.entries; past = h.past; ended_last = h.ended_last; read = h.read; wrote = h.wrote; draws = h.draws; tied = f _ h.tied }

@@ -5,6 +5,7 @@ use Rattle.std.proofs.lemmas.Grind.{flat_map-append}
 use Rattle.std.specs.Result.{IsErrAnd}
 use Rattle.std.specs.Io.KnownBytes.{Consumes, Appends}
 use Rattle.world_model.specs.declared.history.HistoryMark.{HistoryMark}
+use Rattle.world_model.specs.declared.shape.Shape.{Shape}
 use Rattle.front_end.specs.declared.tags.Tag.{Tag}
 use Rattle.front_end.specs.declared.run.Ending.TheVariants as ending
 use Rattle.front_end.specs.declared.script.Command.TheVariants as command
@@ -184,28 +185,28 @@ none_more tags [] line n e = (e, tt)
 none_more tags (l ∷ ls) line n e = (n.0, none_more (with_tag tags (command_of tags l)) ls line n.1 e)
 
 -- the past of a session
-pub past_of : (P : ℕ) (lines : List (List ℕ)) (s : State) (tie : List HistoryMark → Type 0) (first now : Option (ℕ → ℕ)) → StandsAt P lines s tie first now → IsPastOf false lines (entries_of s)
-past_of P lines s tie first now p =
+pub past_of : (shape : Shape) (lines : List (List ℕ)) (s : State) (tie : List HistoryMark → Type 0) (first now : Option (ℕ → ℕ)) → StandsAt shape lines s tie first now → IsPastOf shape.nodes false lines (entries_of s)
+past_of shape lines s tie first now p =
     record { follows = p.carried.past.follows; waits = p.carried.past.waits; ordered = p.carried.past.ordered; in_time = p.in_time }
 
-pub past_over : (lines : List (List ℕ)) (es : List Entry) → IsPastOf false lines es → IsPastOf true lines es
-past_over lines es p = record { follows = p.follows; waits = p.waits; ordered = p.ordered; in_time = weaken false es p.in_time }
+pub past_over : (nodes : ℕ) (lines : List (List ℕ)) (es : List Entry) → IsPastOf nodes false lines es → IsPastOf nodes true lines es
+past_over nodes lines es p = record { follows = p.follows; waits = p.waits; ordered = p.ordered; in_time = weaken false es p.in_time }
 
-pub same_transcript : (P : ℕ) (lines : List (List ℕ)) (s : State) (tie : List HistoryMark → Type 0) (first now : Option (ℕ → ℕ)) → StandsAt P lines s tie first now → transcript_of (tags_after [] lines) (entries_of s) ≡ transcript_so_far s
-same_transcript P lines s tie first now p = ap (λ (t : List Tag). transcript_of t (entries_of s)) (sym p.carried.past.tags)
+pub same_transcript : (shape : Shape) (lines : List (List ℕ)) (s : State) (tie : List HistoryMark → Type 0) (first now : Option (ℕ → ℕ)) → StandsAt shape lines s tie first now → transcript_of (tags_after [] lines) (entries_of s) ≡ transcript_so_far s
+same_transcript shape lines s tie first now p = ap (λ (t : List Tag). transcript_of t (entries_of s)) (sym p.carried.past.tags)
 
 -- a run that stopped between two lines
-pub stopped_between : (P : ℕ) (ls ln ln' to tn tn' : Option (List ℕ)) (w gone : List ℕ) (t : ℕ) (s : Session) (tie : List HistoryMark → Type 0) (first now : Option (ℕ → ℕ)) (o : Outside)
+pub stopped_between : (shape : Shape) (ls ln ln' to tn tn' : Option (List ℕ)) (w gone : List ℕ) (t : ℕ) (s : Session) (tie : List HistoryMark → Type 0) (first now : Option (ℕ → ℕ)) (o : Outside)
     → o.left_old ≡ ls → o.left_new ≡ ln' → o.taken_old ≡ to → o.taken_new ≡ tn' → o.words_old ≡ first
-    → IsRunning P ls ln to tn w t s tie first now → Consumes ln ln' gone → t + length gone ≤ 67108865 → Appends tn tn' [] → HasStopped P tie o now
-stopped_between P ls ln ln' to tn tn' w gone t s tie first now o lo le to_is tn_is words r c bound a =
+    → IsRunning shape ls ln to tn w t s tie first now → Consumes ln ln' gone → t + length gone ≤ 67108865 → Appends tn tn' [] → HasStopped shape tie o now
+stopped_between shape ls ln ln' to tn tn' w gone t s tie first now o lo le to_is tn_is words r c bound a =
     let read : Read ls ln' (λ text left. AreRead r.lines text) = read_cut ls ln ln' w gone t r.lines r.read c bound in
     let wrote : Wrote to tn' (λ wrote. wrote ≡ transcript_of (tags_after [] r.lines) (entries_of r.state)) =
-    subst (λ (x : List ℕ). Wrote to tn' (λ wrote. wrote ≡ x)) (sym (same_transcript P r.lines r.state tie first now r.stands)) (wrote_nothing to tn tn' (transcript_so_far r.state) r.wrote a) in
+    subst (λ (x : List ℕ). Wrote to tn' (λ wrote. wrote ≡ x)) (sym (same_transcript shape r.lines r.state tie first now r.stands)) (wrote_nothing to tn tn' (transcript_so_far r.state) r.wrote a) in
     record {
       lines = r.lines;
       entries = entries_of r.state;
-      past = past_of P r.lines r.state tie first now r.stands;
+      past = past_of shape r.lines r.state tie first now r.stands;
       ended_last = inl r.unended;
       read = rw (lo, le) read;
       wrote = rw (to_is, tn_is) wrote;
@@ -214,18 +215,18 @@ stopped_between P ls ln ln' to tn tn' w gone t s tie first now o lo le to_is tn_
     }
 
 -- a run whose output failed in a line
-pub cut_in_line : (P : ℕ) (ls ln to tn tn' : Option (List ℕ)) (lines : List (List ℕ)) (line : List ℕ) (old : State) (s : Session) (tie : List HistoryMark → Type 0) (first now : Option (ℕ → ℕ)) (o : Outside)
+pub cut_in_line : (shape : Shape) (ls ln to tn tn' : Option (List ℕ)) (lines : List (List ℕ)) (line : List ℕ) (old : State) (s : Session) (tie : List HistoryMark → Type 0) (first now : Option (ℕ → ℕ)) (o : Outside)
     → o.left_old ≡ ls → o.left_new ≡ ln → o.taken_old ≡ to → o.taken_new ≡ tn' → o.words_old ≡ first → o.words_new ≡ now
     → NoneEnds [] lines → Wrote to tn (λ wrote. wrote ≡ transcript_so_far old) → Read ls ln (λ text left. AreRead (lines ++ line ∷ []) text)
-    → RanLine P line lines old s tie first now tn tn' IsSome → WasCutOff P tie o
-cut_in_line P ls ln to tn tn' lines line old s tie first now o lo le to_is tn_is words words_now unended wrote read r =
+    → RanLine shape line lines old s tie first now tn tn' IsSome → WasCutOff shape tie o
+cut_in_line shape ls ln to tn tn' lines line old s tie first now o lo le to_is tn_is words words_now unended wrote read r =
     let all = lines ++ line ∷ [] in
     let front : Wrote to tn' (IsFront (transcript_of (tags_after [] all) (entries_of r.state))) =
-    wrote_front to tn tn' (transcript_so_far old) _ r.added r.bytes r.part.0 wrote r.wrote (same_transcript P all r.state tie first now r.stands ∙ r.transcript) r.part.1 in
+    wrote_front to tn tn' (transcript_so_far old) _ r.added r.bytes r.part.0 wrote r.wrote (same_transcript shape all r.state tie first now r.stands ∙ r.transcript) r.part.1 in
     record {
       lines = all;
       entries = entries_of r.state;
-      past = past_over all (entries_of r.state) (past_of P all r.state tie first now r.stands);
+      past = past_over shape.nodes all (entries_of r.state) (past_of shape all r.state tie first now r.stands);
       ended_last = inr (lines, line, refl, unended);
       read = rw (lo, le) read;
       wrote = rw (to_is, tn_is) front;
@@ -234,10 +235,10 @@ cut_in_line P ls ln to tn tn' lines line old s tie first now o lo le to_is tn_is
     }
 
 -- the run goes on behind a line
-pub runs_on : (P : ℕ) (ls ln ln' to tn tn' : Option (List ℕ)) (w w' : List ℕ) (t t' : ℕ) (line : List ℕ) (s s' : Session) (tie tie' : List HistoryMark → Type 0) (first now next : Option (ℕ → ℕ))
-    → IsRunning P ls ln to tn w t s tie first now → TakesNext ln ln' w w' (Line line) → ReadsBytes ln ln' t t' → RunsLine P line s s' tie tie' now next tn tn' IsAll → s'.lines ≡ s.lines + 1
-    → command_of s.tags line ≢ Some command.End → IsRunning P ls ln' to tn' w' t' s' tie' first next
-runs_on P ls ln ln' to tn tn' w w' t t' line s s' tie tie' first now next r next_line reads runs counted more =
+pub runs_on : (shape : Shape) (ls ln ln' to tn tn' : Option (List ℕ)) (w w' : List ℕ) (t t' : ℕ) (line : List ℕ) (s s' : Session) (tie tie' : List HistoryMark → Type 0) (first now next : Option (ℕ → ℕ))
+    → IsRunning shape ls ln to tn w t s tie first now → TakesNext ln ln' w w' (Line line) → ReadsBytes ln ln' t t' → RunsLine shape line s s' tie tie' now next tn tn' IsAll → s'.lines ≡ s.lines + 1
+    → command_of s.tags line ≢ Some command.End → IsRunning shape ls ln' to tn' w' t' s' tie' first next
+runs_on shape ls ln ln' to tn tn' w w' t t' line s s' tie tie' first now next r next_line reads runs counted more =
     let done = runs r.lines r.state first r.keeps r.stands r.counted in
     let size = length-append r.lines (line ∷ []) in
     record {
@@ -252,10 +253,10 @@ runs_on P ls ln ln' to tn tn' w w' t t' line s s' tie tie' first now next r next
     }
 
 -- the script ended with a line
-pub ran_end : (P : ℕ) (ls ln ln' to tn tn' : Option (List ℕ)) (w w' : List ℕ) (t t' : ℕ) (line : List ℕ) (s s' : Session) (tie tie' : List HistoryMark → Type 0) (first now next : Option (ℕ → ℕ))
-    → IsRunning P ls ln to tn w t s tie first now → TakesNext ln ln' w w' (Line line) → ReadsBytes ln ln' t t' → t' ≤ 67108864 → RunsLine P line s s' tie tie' now next tn tn' IsAll
-    → command_of s.tags line ≡ Some command.End → RanLines P ls ln' to tn' s' tie' first next ending.AtEndLine
-ran_end P ls ln ln' to tn tn' w w' t t' line s s' tie tie' first now next r next_line reads small runs ends =
+pub ran_end : (shape : Shape) (ls ln ln' to tn tn' : Option (List ℕ)) (w w' : List ℕ) (t t' : ℕ) (line : List ℕ) (s s' : Session) (tie tie' : List HistoryMark → Type 0) (first now next : Option (ℕ → ℕ))
+    → IsRunning shape ls ln to tn w t s tie first now → TakesNext ln ln' w w' (Line line) → ReadsBytes ln ln' t t' → t' ≤ 67108864 → RunsLine shape line s s' tie tie' now next tn tn' IsAll
+    → command_of s.tags line ≡ Some command.End → RanLines shape ls ln' to tn' s' tie' first next ending.AtEndLine
+ran_end shape ls ln ln' to tn tn' w w' t t' line s s' tie tie' first now next r next_line reads small runs ends =
     let done = runs r.lines r.state first r.keeps r.stands r.counted in
     let ends' : command_of (tags_after [] r.lines) line ≡ Some command.End = ap (λ (x : List Tag). command_of x line) (sym (r.keeps.tags ∙ r.stands.carried.past.tags)) ∙ ends in
     record {
@@ -269,10 +270,10 @@ ran_end P ls ln ln' to tn tn' w w' t t' line s s' tie tie' first now next r next
     }
 
 -- the input ended with a line
-pub ran_last : (P : ℕ) (ls ln ln' to tn tn' : Option (List ℕ)) (w w' : List ℕ) (t t' : ℕ) (line : List ℕ) (s s' : Session) (tie tie' : List HistoryMark → Type 0) (first now next : Option (ℕ → ℕ))
-    → IsRunning P ls ln to tn w t s tie first now → TakesNext ln ln' w w' (Last line) → ReadsBytes ln ln' t t' → t' ≤ 67108864 → RunsLine P line s s' tie tie' now next tn tn' IsAll
-    → RanLines P ls ln' to tn' s' tie' first next ending.AtEnd
-ran_last P ls ln ln' to tn tn' w w' t t' line s s' tie tie' first now next r next_line reads small runs =
+pub ran_last : (shape : Shape) (ls ln ln' to tn tn' : Option (List ℕ)) (w w' : List ℕ) (t t' : ℕ) (line : List ℕ) (s s' : Session) (tie tie' : List HistoryMark → Type 0) (first now next : Option (ℕ → ℕ))
+    → IsRunning shape ls ln to tn w t s tie first now → TakesNext ln ln' w w' (Last line) → ReadsBytes ln ln' t t' → t' ≤ 67108864 → RunsLine shape line s s' tie tie' now next tn tn' IsAll
+    → RanLines shape ls ln' to tn' s' tie' first next ending.AtEnd
+ran_last shape ls ln ln' to tn tn' w w' t t' line s s' tie tie' first now next r next_line reads small runs =
     let done = runs r.lines r.state first r.keeps r.stands r.counted in
     record {
       lines = r.lines ++ line ∷ [];
@@ -285,7 +286,7 @@ ran_last P ls ln ln' to tn tn' w w' t t' line s s' tie tie' first now next r nex
     }
 
 -- the limit was passed
-pub ran_limit : (P : ℕ) (ls ln ln' to tn : Option (List ℕ)) (w w' : List ℕ) (t t' : ℕ) (s : Session) (tie : List HistoryMark → Type 0) (first now : Option (ℕ → ℕ))
-    → IsRunning P ls ln to tn w t s tie first now → TakesNext ln ln' w w' Limit → ReadsBytes ln ln' t t' → t' ≡ 67108865 → RanLines P ls ln' to tn s tie first now ending.PastLimit
-ran_limit P ls ln ln' to tn w w' t t' s tie first now r next_line reads large =
+pub ran_limit : (shape : Shape) (ls ln ln' to tn : Option (List ℕ)) (w w' : List ℕ) (t t' : ℕ) (s : Session) (tie : List HistoryMark → Type 0) (first now : Option (ℕ → ℕ))
+    → IsRunning shape ls ln to tn w t s tie first now → TakesNext ln ln' w w' Limit → ReadsBytes ln ln' t t' → t' ≡ 67108865 → RanLines shape ls ln' to tn s tie first now ending.PastLimit
+ran_limit shape ls ln ln' to tn w w' t t' s tie first now r next_line reads large =
     record { lines = r.lines; state = r.state; keeps = r.keeps; stands = r.stands; ended_last = inl r.unended; read = read_limit ls ln ln' w w' t t' r.lines r.read next_line reads large; wrote = r.wrote }

@@ -10,20 +10,20 @@ use Rattle.front_end.specs.Running.{IsOn, WasOn, RunsLine, StillRuns, Telling}
 pub still_runs : {F : Type 0} (t : Telling F) (a b c : F) → StillRuns t a b → StillRuns t b c → StillRuns t a c
 still_runs t a b c p q = λ cluster place opening run. q cluster place opening (p cluster place opening run)
 
--- a line that was carried out over as many partitions
-pub runs_over : (P Q : ℕ) (line : List ℕ) (s s' : Session) (tie tie' : List HistoryMark → Type 0) (before now : Option (ℕ → ℕ)) (tn tn' : Option (List ℕ)) (written : List ℕ → List ℕ → Type 0) → P ≡ Q
+-- a line that was carried out on a cluster of the same shape
+pub runs_over : (P Q : Shape) (line : List ℕ) (s s' : Session) (tie tie' : List HistoryMark → Type 0) (before now : Option (ℕ → ℕ)) (tn tn' : Option (List ℕ)) (written : List ℕ → List ℕ → Type 0) → P ≡ Q
     → RunsLine P line s s' tie tie' before now tn tn' written → RunsLine Q line s s' tie tie' before now tn tn' written
-runs_over P Q line s s' tie tie' before now tn tn' written same runs = subst (λ (p : ℕ). RunsLine p line s s' tie tie' before now tn tn' written) same runs
+runs_over P Q line s s' tie tie' before now tn tn' written same runs = subst (λ (p : Shape). RunsLine p line s s' tie tie' before now tn tn' written) same runs
 
--- runs over as many partitions
-pub finished_over : (P Q : ℕ) (tie : List HistoryMark → Type 0) (m n : ℕ) (o : Outside) → P ≡ Q → m ≡ n → HasFinished P tie m o → HasFinished Q tie n o
-finished_over P Q tie m n o parts status h = subst (λ (p : ℕ). HasFinished p tie n o) parts (subst (λ (x : ℕ). HasFinished P tie x o) status h)
+-- runs on a cluster of the same shape
+pub finished_over : (P Q : Shape) (tie : List HistoryMark → Type 0) (m n : ℕ) (o : Outside) → P ≡ Q → m ≡ n → HasFinished P tie m o → HasFinished Q tie n o
+finished_over P Q tie m n o parts status h = subst (λ (p : Shape). HasFinished p tie n o) parts (subst (λ (x : ℕ). HasFinished P tie x o) status h)
 
-pub stopped_over : (P Q : ℕ) (tie : List HistoryMark → Type 0) (o : Outside) (words : Option (ℕ → ℕ)) → P ≡ Q → HasStopped P tie o words → HasStopped Q tie o words
-stopped_over P Q tie o words parts h = subst (λ (p : ℕ). HasStopped p tie o words) parts h
+pub stopped_over : (P Q : Shape) (tie : List HistoryMark → Type 0) (o : Outside) (words : Option (ℕ → ℕ)) → P ≡ Q → HasStopped P tie o words → HasStopped Q tie o words
+stopped_over P Q tie o words parts h = subst (λ (p : Shape). HasStopped p tie o words) parts h
 
-pub cut_over : (P Q : ℕ) (tie : List HistoryMark → Type 0) (o : Outside) → P ≡ Q → WasCutOff P tie o → WasCutOff Q tie o
-cut_over P Q tie o parts h = subst (λ (p : ℕ). WasCutOff p tie o) parts h
+pub cut_over : (P Q : Shape) (tie : List HistoryMark → Type 0) (o : Outside) → P ≡ Q → WasCutOff P tie o → WasCutOff Q tie o
+cut_over P Q tie o parts h = subst (λ (p : Shape). WasCutOff p tie o) parts h
 
 -- what holds on a network, seen otherwise
 pub on_map : {F : Type 0} (t : Telling F) (s s' : Shape) (old new : F) (holds more : (List HistoryMark → Type 0) → Type 0) → s ≡ s' → ((tie : List HistoryMark → Type 0) → holds tie → more tie) → IsOn t s old new holds → IsOn t s' old new more

@@ -7,9 +7,10 @@ use Rattle.std.specs.List.{AllByRecursion, Contains}
 use Rattle.front_end.specs.declared.tags.Tag.{Tag}
 use Rattle.quorum_op.specs.declared.outcome.Outcome.{Outcome}
 use Rattle.world_model.specs.declared.history.HistoryMark.{HistoryMark}
-use Rattle.world_model.specs.declared.history.HistoryMark.TheVariants.{Begin, Cancel, Drain, Drew, End, Level, Wait}
+use Rattle.world_model.specs.declared.history.HistoryMark.TheVariants.{Begin, Cancel, Drain, Drew, End, Level, Ordered, Wait}
+use Rattle.world_model.specs.declared.order.Order.{Order}
 use Rattle.front_end.specs.declared.history.Entry.{Entry}
-use Rattle.front_end.specs.declared.history.Entry.TheVariants.{Mark, Bad}
+use Rattle.front_end.specs.declared.history.Entry.TheVariants.{Mark, Bad, Failed}
 use Rattle.front_end.specs.History.{Moment, start, after, after_all, MayCome, IsOrdered, with_first_end}
 use Rattle.front_end.specs.Past.{answer_after, answer_along}
 use Rattle.front_end.specs.Script.{name_of, name_or_none}
@@ -47,7 +48,9 @@ line_stays tags more (Mark (Wait t)) h = refl
 line_stays tags more (Mark (Cancel c0)) h = refl
 line_stays tags more (Mark (Level l0 l1 l2 l3)) h = refl
 line_stays tags more (Mark (Drain d0 d1)) h = refl
+line_stays tags more (Mark (Ordered d0 d1)) h = refl
 line_stays tags more (Bad n) h = refl
+line_stays tags more (Failed o) h = refl
 
 pub transcript_stays : (tags more : List Tag) (es : List Entry) → AllByRecursion (IsNumbered (length tags)) es → transcript_of (tags ++ more) es ≡ transcript_of tags es
 transcript_stays tags more [] all = refl
@@ -64,6 +67,7 @@ pub has_bad-append : (a b : List Entry) → has_bad (a ++ b) ≡ cond (has_bad a
 has_bad-append [] b = refl
 has_bad-append (Mark m ∷ a) b = has_bad-append a b
 has_bad-append (Bad n ∷ a) b = refl
+has_bad-append (Failed o ∷ a) b = has_bad-append a b
 
 cond_false : (b : Bool) → cond b true false ≡ b
 cond_false true = refl
@@ -71,6 +75,9 @@ cond_false false = refl
 
 pub has_bad_mark : (a : List Entry) (m : HistoryMark) → has_bad (a ++ Mark m ∷ []) ≡ has_bad a
 has_bad_mark a m = has_bad-append a (Mark m ∷ []) ∙ cond_false (has_bad a)
+
+pub has_bad_failed : (a : List Entry) (o : Order) → has_bad (a ++ Failed o ∷ []) ≡ has_bad a
+has_bad_failed a o = has_bad-append a (Failed o ∷ []) ∙ cond_false (has_bad a)
 
 always_true : (b : Bool) → cond b true true ≡ true
 always_true true = refl
@@ -83,6 +90,7 @@ pub has_bad_wait : (a b : List Entry) (t : Option ℕ) → has_bad ((a ++ Mark (
 has_bad_wait [] b t = refl
 has_bad_wait (Mark m ∷ a) b t = has_bad_wait a b t
 has_bad_wait (Bad n ∷ a) b t = refl
+has_bad_wait (Failed o ∷ a) b t = has_bad_wait a b t
 
 -- before the first end at least one operation was open
 abbrev WasOpen : Option ℕ → Type 0
@@ -105,6 +113,7 @@ first_end_open now (Wait t ∷ h) w p = first_end_open (after now (Wait t)) h tt
 first_end_open now (Cancel n ∷ h) w p = absurd p.0
 first_end_open now (Level q a b y ∷ h) w p = absurd p.0
 first_end_open now (Drain d y ∷ h) w p = absurd p.0
+first_end_open now (Ordered d y ∷ h) w p = first_end_open (after now (Ordered d y)) h tt p.1
 
 full : (o : Option ℕ) (count : ℕ) → WasOpen o → 1 ≤ count → (c : ℕ) × (with_first_end o count ≡ Some c) × (1 ≤ c)
 full None count h lt = (count, refl, lt)

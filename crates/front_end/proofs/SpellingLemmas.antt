@@ -1,16 +1,20 @@
 -- What is read from a line is what the line spells, and the other way round.
-use Rattle.std.proofs.Common.{◌≡◌, ◌∙◌, inl, inr, ℕ, ◌<◌, ◌&&◌, ◌||◌, nat_eq, nat_lt, Bool, true, false, cond, codes, Option, Some, None, Ok, is_none, option_map, option_and_then, List, [], ◌∷◌, length, refl, sym, ap, subst, arith, true≢false}
+use Rattle.std.proofs.Common.{◌≡◌, ◌∙◌, inl, inr, ℕ, ◌<◌, ◌&&◌, ◌||◌, nat_eq, nat_le, nat_lt, ◌≤◌, Bool, true, false, cond, codes, Option, Some, None, Ok, is_none, option_map, option_and_then, List, [], ◌∷◌, length, refl, sym, ap, subst, arith, true≢false}
 use Rattle.std.specs.Str.{bytes_eq}
 use Rattle.std.proofs.lemmas.Bool.Decides.{nat_tests}
 use Rattle.hex.specs.Hex.{decode_of, encode_lower}
 use Rattle.blob_id.specs.Id.{IsId}
+use Rattle.run_words.specs.Options.{IsNumeral}
+use Rattle.run_words.specs.Reading.{number_at}
+use Rattle.run_words.proofs.NumberLemmas.{number_takes, number_again}
 use Rattle.world_model.specs.Pieces.{is_composite}
+use Rattle.world_model.specs.declared.order.Order.TheVariants as order
 use Rattle.front_end.specs.declared.tags.Tag.{Tag}
 use Rattle.front_end.specs.declared.script.Command.{Command}
-use Rattle.front_end.specs.declared.script.Command.TheVariants.{Skip, Put, Get, Delete, Wait, End}
+use Rattle.front_end.specs.declared.script.Command.TheVariants.{Skip, Put, Get, Delete, Order, Wait, End}
 use Rattle.front_end.specs.declared.script.Target.{Target}
-use Rattle.front_end.specs.Script.{longest_line, words_of, is_comment, is_tag, tag_number, is_put_at, tag_kind, is_new_tag, ok_value, bytes_of_digits, put_of, tag_target, id_of_digits, id_target, behind_dollar, target_by, target_of, named_command, one_word, named_line, put_line, operation_of, command_of_words, command_of}
-use Rattle.front_end.specs.Spelling.{IsNothing, IsHex, IsNewTag, IsTagOfPut, SpellsTarget, SpellsByWords, Spells}
+use Rattle.front_end.specs.Script.{longest_line, words_of, is_comment, is_tag, tag_number, is_put_at, tag_kind, is_new_tag, ok_value, bytes_of_digits, put_of, tag_target, id_of_digits, id_target, behind_dollar, target_by, target_of, named_command, node_command, node_of, one_word, named_line, order_line, put_line, operation_of, command_of_words, command_of}
+use Rattle.front_end.specs.Spelling.{IsNothing, IsHex, IsNewTag, IsTagOfPut, SpellsNode, SpellsTarget, SpellsByWords, Spells}
 use Rattle.front_end.proofs.ChoiceLemmas.{some_is, chosen, kept, both, nothing, mapped, ok_is, same_text}
 use Rattle.front_end.proofs.DigitLemmas.{id_from_digits, digits_of_id, no_dollar}
 
@@ -104,9 +108,45 @@ named_takes tags word tag id c e =
     by true same t some new target = (id, front (codes "del") (same_text word (codes "del") same), new, target)
     by false same t some new target = (id, front (codes "get") (same_text word (codes "get") (either (bytes_eq word (codes "get")) (bytes_eq word (codes "del")) some same)), new, target)
 
+node_takes : (number node : ℕ) → node_of number ≡ Some node → (number ≡ node) × (1 ≤ node) × (node ≤ 9)
+node_takes number node e =
+    let k = kept (nat_le 1 number && nat_le number 9) (Some number) node e in
+    let p = both (nat_le 1 number) (nat_le number 9) k.0 in
+    let is : number ≡ node = some_is number node k.1 in
+    let least : 1 ≤ number = grind (arith, nat_tests) in
+    let most : number ≤ 9 = grind (arith, nat_tests) in
+    (is, subst (λ (n : ℕ). 1 ≤ n) is least, subst (λ (n : ℕ). n ≤ 9) is most)
+
+digits_take : (digits : List ℕ) (node : ℕ) → option_and_then node_of (number_at digits) ≡ Some node → SpellsNode node digits
+digits_take digits node e = by (number_at digits) refl e
+  where
+    by : (read : Option ℕ) → number_at digits ≡ read → option_and_then node_of read ≡ Some node → SpellsNode node digits
+    by None same e = absurd cc
+    by (Some number) same e =
+        let t = node_takes number node e in
+        (subst (λ (n : ℕ). IsNumeral digits n) t.0 (number_takes digits number same), t.1, t.2)
+
+node_there : (restart : Bool) (node : Option ℕ) (c : Command) → option_map (node_command restart) node ≡ Some c → (n : ℕ) × (node ≡ Some n) × (node_command restart n ≡ c)
+node_there restart None c e = absurd cc
+node_there restart (Some n) c e = (n, refl, some_is (node_command restart n) c e)
+
+order_takes : (tags : List Tag) (word digits : List ℕ) (c : Command) → order_line word digits ≡ Some c → SpellsByWords tags c (word ∷ digits ∷ [])
+order_takes tags word digits c e =
+    let k = kept (bytes_eq word (codes "stop") || bytes_eq word (codes "restart")) (option_map (node_command (bytes_eq word (codes "restart"))) (option_and_then node_of (number_at digits))) c e in
+    let n = node_there (bytes_eq word (codes "restart")) (option_and_then node_of (number_at digits)) c k.1 in
+    subst (λ (x : Command). SpellsByWords tags x (word ∷ digits ∷ [])) n.2 (by (bytes_eq word (codes "restart")) refl n.0 k.0 (digits_take digits n.0 n.1))
+  where
+    front : (text : List ℕ) → word ≡ text → word ∷ digits ∷ [] ≡ text ∷ digits ∷ []
+    front text same = ap (λ (w : List ℕ). w ∷ digits ∷ []) same
+
+    by : (restart : Bool) → bytes_eq word (codes "restart") ≡ restart → (node : ℕ) → (bytes_eq word (codes "stop") || bytes_eq word (codes "restart")) ≡ true → SpellsNode node digits
+        → SpellsByWords tags (node_command restart node) (word ∷ digits ∷ [])
+    by true same node some spells = (digits, front (codes "restart") (same_text word (codes "restart") same), spells)
+    by false same node some spells = (digits, front (codes "stop") (same_text word (codes "stop") (either (bytes_eq word (codes "stop")) (bytes_eq word (codes "restart")) some same)), spells)
+
 operation_takes : (tags : List Tag) (word : List ℕ) (more : List (List ℕ)) (c : Command) → operation_of tags word more ≡ Some c → SpellsByWords tags c (word ∷ more)
 operation_takes tags word [] c e = one_takes tags word c e
-operation_takes tags word (x ∷ []) c e = absurd cc
+operation_takes tags word (digits ∷ []) c e = order_takes tags word digits c e
 operation_takes tags word (tag ∷ id ∷ []) c e = named_takes tags word tag id c e
 operation_takes tags word (tag ∷ form ∷ digits ∷ []) c e = put_takes tags word tag form digits c e
 operation_takes tags word (x ∷ y ∷ z ∷ u ∷ more) c e = absurd cc
@@ -173,6 +213,15 @@ target_again : (tags : List Tag) (t : Target) (word : List ℕ) → SpellsTarget
 target_again tags (Target.Tag of) word s = ap (target_of tags) s.0 ∙ ap (tag_target of) (kind_again tags of s.1)
 target_again tags (Target.Id id) word s = id_again tags word id s.0 s.1 s.2
 
+node_known : (node : ℕ) → 1 ≤ node → node ≤ 9 → node_of node ≡ Some node
+node_known node least most =
+    let not_less : nat_le 1 node ≡ true = grind (arith, nat_tests) in
+    let not_more : nat_le node 9 ≡ true = grind (arith, nat_tests) in
+    rw (not_less, not_more) refl
+
+node_again : (digits : List ℕ) (node : ℕ) → SpellsNode node digits → option_and_then node_of (number_at digits) ≡ Some node
+node_again digits node s = ap (option_and_then node_of) (number_again digits node s.0) ∙ node_known node s.1 s.2
+
 words_again : (tags : List Tag) (c : Command) (words : List (List ℕ)) → SpellsByWords tags c words → command_of_words tags words ≡ Some c
 words_again tags Skip words s = elim s [ inl p ↦ ap (command_of_words tags) p | inr p ↦ ap (command_of_words tags) p.2 ]
 words_again tags (Put tag body) words s =
@@ -187,6 +236,11 @@ words_again tags (Delete tag of) words s =
     ap (command_of_words tags) s.1
     ∙ ap (λ (b : Bool). cond b (option_map (named_command true tag) (target_of tags s.0)) None) (new_again tags tag s.2)
     ∙ ap (option_map (named_command true tag)) (target_again tags of s.0 s.3)
+words_again tags (Order (order.Stop node)) words s = ap (command_of_words tags) s.1 ∙ ap (option_map (node_command false)) (node_again s.0 node s.2)
+words_again tags (Order (order.Restart node)) words s = ap (command_of_words tags) s.1 ∙ ap (option_map (node_command true)) (node_again s.0 node s.2)
+words_again tags (Order (order.Pull a b p)) words s = absurd s
+words_again tags (Order (order.Compact n p)) words s = absurd s
+words_again tags (Order (order.Level p a b)) words s = absurd s
 words_again tags Wait words s = ap (command_of_words tags) s
 words_again tags End words s = ap (command_of_words tags) s
 

@@ -4,9 +4,10 @@ use Rattle.std.proofs.lemmas.List.{append-nil}
 use Rattle.std.specs.List.{AllByRecursion}
 use Rattle.front_end.specs.declared.tags.Tag.{Tag}
 use Rattle.world_model.specs.declared.history.HistoryMark.{HistoryMark}
-use Rattle.world_model.specs.declared.history.HistoryMark.TheVariants.{Begin, Cancel, Drain, Drew, End, Level, Wait}
+use Rattle.world_model.specs.declared.history.HistoryMark.TheVariants.{Begin, Cancel, Drain, Drew, End, Level, Ordered, Wait}
+use Rattle.world_model.specs.declared.order.Order.{Order}
 use Rattle.front_end.specs.declared.history.Entry.{Entry}
-use Rattle.front_end.specs.declared.history.Entry.TheVariants.{Mark, Bad}
+use Rattle.front_end.specs.declared.history.Entry.TheVariants.{Mark, Bad, Failed}
 use Rattle.front_end.specs.History.{Moment, start, after, after_all, MayCome, IsOrdered}
 use Rattle.front_end.specs.Script.{Asked, asked, asked_by, with_tag, tags_after, command_of}
 use Rattle.front_end.specs.Past.{marks_of, is_later, is_wait, IsOwn}
@@ -47,11 +48,16 @@ numbered_more few many le (Mark (Wait t)) h = tt
 numbered_more few many le (Mark (Cancel c0)) h = tt
 numbered_more few many le (Mark (Level l0 l1 l2 l3)) h = tt
 numbered_more few many le (Mark (Drain d0 d1)) h = tt
+numbered_more few many le (Mark (Ordered d0 d1)) h = tt
 numbered_more few many le (Bad n) h = tt
+numbered_more few many le (Failed o) h = tt
 
 -- one more mark
 pub marks_with : (es : List Entry) (m : HistoryMark) → marks_of (es ++ Mark m ∷ []) ≡ marks_of es ++ m ∷ []
 marks_with es m = marks_of-append es (Mark m ∷ [])
+
+pub marks_with_failed : (es : List Entry) (o : Order) → marks_of (es ++ Failed o ∷ []) ≡ marks_of es
+marks_with_failed es o = marks_of-append es (Failed o ∷ []) ∙ append-nil (marks_of es)
 
 pub marks_with_bad : (es : List Entry) (n : ℕ) → marks_of (es ++ Bad n ∷ []) ≡ marks_of es
 marks_with_bad es n = marks_of-append es (Bad n ∷ []) ∙ append-nil (marks_of es)
@@ -63,19 +69,19 @@ pub ordered_with : (es : List Entry) (m : HistoryMark) → IsOrdered 1 start (ma
 ordered_with es m p q = rw (marks_with es m) (ordered_append 1 start (marks_of es) (m ∷ []) p (q, tt))
 
 -- what was drawn, or an end
-pub past_later : (ls : List (List ℕ)) (known : List Tag) (past since : List Entry) (unfinished to_draw left undrawn : List ℕ) (m : HistoryMark)
-    → IsPast ls known past since unfinished to_draw → is_later (Mark m) ≡ true → IsNumbered (length known) (Mark m)
+pub past_later : (nodes : ℕ) (ls : List (List ℕ)) (known : List Tag) (past since : List Entry) (unfinished to_draw left undrawn : List ℕ) (m : HistoryMark)
+    → IsPast nodes ls known past since unfinished to_draw → is_later (Mark m) ≡ true → IsNumbered (length known) (Mark m)
     → MayCome 1 (after_all start (marks_of (past ++ since))) m
     → (after (after_all start (marks_of (past ++ since))) m).open_operations ≡ left
     → (after (after_all start (marks_of (past ++ since))) m).undrawn ≡ undrawn
     → (after (after_all start (marks_of (past ++ since))) m).begun_count ≡ (after_all start (marks_of (past ++ since))).begun_count
-    → IsPast ls known past (since ++ Mark m ∷ []) left undrawn
-past_later ls known past since unfinished to_draw left undrawn m p later numbered comes rest drawing counted =
+    → IsPast nodes ls known past (since ++ Mark m ∷ []) left undrawn
+past_later nodes ls known past since unfinished to_draw left undrawn m p later numbered comes rest drawing counted =
     let e = sym (append_assoc past since (Mark m ∷ [])) in
     let only : AllByRecursion (λ x. is_later x ≡ true) (Mark m ∷ []) = (later, tt) in
     record {
       tags = p.tags;
-      follows = rw e (follows_later [] (past ++ since) _ (Mark m) p.follows later);
+      follows = rw e (follows_later nodes [] (past ++ since) _ (Mark m) p.follows later);
       later = all_append (λ x. is_later x ≡ true) since (Mark m ∷ []) p.later only;
       front = p.front;
       waits = rw e (waits_append true (past ++ since) (Mark m ∷ []) p.waits (later_waits _ (Mark m ∷ []) only));
@@ -87,21 +93,21 @@ past_later ls known past since unfinished to_draw left undrawn m p later numbere
     }
 
 -- the entry of a script line that is no wait
-pub past_own : (ls : List (List ℕ)) (known more : List Tag) (past since : List Entry) (unfinished to_draw left undrawn : List ℕ) (line : List ℕ) (e : Entry) (a : Asked)
-    → IsPast ls known past since unfinished to_draw → more ≡ with_tag known (command_of known line) → length known ≤ length more
+pub past_own : (nodes : ℕ) (ls : List (List ℕ)) (known more : List Tag) (past since : List Entry) (unfinished to_draw left undrawn : List ℕ) (line : List ℕ) (e : Entry) (a : Asked)
+    → IsPast nodes ls known past since unfinished to_draw → more ≡ with_tag known (command_of known line) → length known ≤ length more
     → asked_by (1 + length ls) known (command_of known line) ≡ a ∷ []
-    → is_later e ≡ false → is_wait e ≡ false → IsOwn (past ++ since) a e → IsNumbered (length more) e
+    → is_later e ≡ false → is_wait e ≡ false → IsOwn nodes (past ++ since) a e → IsNumbered (length more) e
     → IsOrdered 1 start (marks_of ((past ++ since) ++ e ∷ []))
     → (after_all start (marks_of ((past ++ since) ++ e ∷ []))).open_operations ≡ left
     → (after_all start (marks_of ((past ++ since) ++ e ∷ []))).undrawn ≡ undrawn
     → (after_all start (marks_of ((past ++ since) ++ e ∷ []))).begun_count ≡ length more
-    → IsPast (ls ++ line ∷ []) more ((past ++ since) ++ e ∷ []) [] left undrawn
-past_own ls known more past since unfinished to_draw left undrawn line e a p tags grows asks own no_wait is numbered ordered rest drawing counted =
+    → IsPast nodes (ls ++ line ∷ []) more ((past ++ since) ++ e ∷ []) [] left undrawn
+past_own nodes ls known more past since unfinished to_draw left undrawn line e a p tags grows asks own no_wait is numbered ordered rest drawing counted =
     let all = (past ++ since) ++ e ∷ [] in
     let same : all ++ [] ≡ all = append-nil all in
     record {
       tags = tags ∙ next_tags ls known line p.tags;
-      follows = rw (same, next_asked ls known line p.tags, asks) (follows_own [] (past ++ since) _ e a p.follows own is);
+      follows = rw (same, next_asked ls known line p.tags, asks) (follows_own nodes [] (past ++ since) _ e a p.follows own is);
       later = tt;
       front = front_after-append true (past ++ since) e ∙ ap not own;
       waits = rw same (waits_append true (past ++ since) (e ∷ []) p.waits (λ w. absurd cc, tt));
@@ -113,10 +119,10 @@ past_own ls known more past since unfinished to_draw left undrawn line e a p tag
     }
 
 -- a line that has no entry
-pub past_skip : (ls : List (List ℕ)) (known : List Tag) (past since : List Entry) (unfinished to_draw : List ℕ) (line : List ℕ)
-    → IsPast ls known past since unfinished to_draw → with_tag known (command_of known line) ≡ known → asked_by (1 + length ls) known (command_of known line) ≡ []
-    → IsPast (ls ++ line ∷ []) known past since unfinished to_draw
-past_skip ls known past since unfinished to_draw line p tags asks =
+pub past_skip : (nodes : ℕ) (ls : List (List ℕ)) (known : List Tag) (past since : List Entry) (unfinished to_draw : List ℕ) (line : List ℕ)
+    → IsPast nodes ls known past since unfinished to_draw → with_tag known (command_of known line) ≡ known → asked_by (1 + length ls) known (command_of known line) ≡ []
+    → IsPast nodes (ls ++ line ∷ []) known past since unfinished to_draw
+past_skip nodes ls known past since unfinished to_draw line p tags asks =
     record {
       tags = sym tags ∙ next_tags ls known line p.tags;
       follows = rw (next_asked ls known line p.tags, asks, append-nil (asked 1 [] ls)) p.follows;
@@ -135,11 +141,11 @@ grown_is_something [] x e = cc
 grown_is_something (y ∷ xs) x e = cc
 
 -- a wait
-pub past_wait : (ls : List (List ℕ)) (known : List Tag) (past since : List Entry) (unfinished to_draw : List ℕ) (line : List ℕ) (a : Asked)
-    → IsPast ls known past since unfinished to_draw → with_tag known (command_of known line) ≡ known → asked_by (1 + length ls) known (command_of known line) ≡ a ∷ []
-    → ((b : List Entry) → IsOwn b a (Mark (Wait None)))
-    → IsPast (ls ++ line ∷ []) known (past ++ Mark (Wait None) ∷ []) since unfinished to_draw
-past_wait ls known past since unfinished to_draw line a p tags asks own =
+pub past_wait : (nodes : ℕ) (ls : List (List ℕ)) (known : List Tag) (past since : List Entry) (unfinished to_draw : List ℕ) (line : List ℕ) (a : Asked)
+    → IsPast nodes ls known past since unfinished to_draw → with_tag known (command_of known line) ≡ known → asked_by (1 + length ls) known (command_of known line) ≡ a ∷ []
+    → ((b : List Entry) → IsOwn nodes b a (Mark (Wait None)))
+    → IsPast nodes (ls ++ line ∷ []) known (past ++ Mark (Wait None) ∷ []) since unfinished to_draw
+past_wait nodes ls known past since unfinished to_draw line a p tags asks own =
     let now = after_all start (marks_of past) in
     let marks : marks_of ((past ++ Mark (Wait None) ∷ []) ++ since) ≡ (marks_of past ++ Wait None ∷ []) ++ marks_of since =
     marks_of-append (past ++ Mark (Wait None) ∷ []) since ∙ ap (λ (t : List HistoryMark). t ++ marks_of since) (marks_with past (Wait None)) in
@@ -153,7 +159,7 @@ past_wait ls known past since unfinished to_draw line a p tags asks own =
     let was : after_all start (marks_of (past ++ since)) ≡ after_all now (marks_of since) = ap (after_all start) (marks_of-append past since) ∙ after_all-append start (marks_of past) (marks_of since) in
     record {
       tags = sym tags ∙ next_tags ls known line p.tags;
-      follows = rw (next_asked ls known line p.tags, asks) (follows_wait [] past since _ a None p.later p.follows own);
+      follows = rw (next_asked ls known line p.tags, asks) (follows_wait nodes [] past since _ a None p.later p.follows own);
       later = p.later;
       front = front_after-append true past (Mark (Wait None));
       waits = waits_append true (past ++ Mark (Wait None) ∷ []) since

@@ -3,9 +3,9 @@ use Rattle.std.proofs.Common.{◌≡◌, ◌⊎◌, inl, inr, ℕ, List, [], ◌
 use Rattle.std.specs.List.{AllByRecursion}
 use Rattle.quorum_op.specs.declared.outcome.Outcome.{Outcome}
 use Rattle.world_model.specs.declared.history.Begun.{Begun}
-use Rattle.world_model.specs.declared.history.HistoryMark.TheVariants.{Begin, Cancel, Drain, Drew, End, Level, Wait}
+use Rattle.world_model.specs.declared.history.HistoryMark.TheVariants.{Begin, Cancel, Drain, Drew, End, Level, Ordered, Wait}
 use Rattle.front_end.specs.declared.history.Entry.{Entry}
-use Rattle.front_end.specs.declared.history.Entry.TheVariants.{Mark, Bad}
+use Rattle.front_end.specs.declared.history.Entry.TheVariants.{Mark, Bad, Failed}
 use Rattle.front_end.specs.Past.{is_later, BeginsNext, EndsWhileWaiting}
 use Rattle.front_end.proofs.PastLemmas.{match_map}
 
@@ -35,8 +35,10 @@ weaken w (Mark (Begin n r) ∷ es) p = weaken false es p
 weaken w (Mark (Cancel c0) ∷ es) p = weaken false es p
 weaken w (Mark (Level l0 l1 l2 l3) ∷ es) p = weaken false es p
 weaken w (Mark (Drain d0 d1) ∷ es) p = weaken false es p
+weaken w (Mark (Ordered d0 d1) ∷ es) p = weaken false es p
 weaken w (Mark (Wait t) ∷ es) p = weaken true es p
 weaken w (Bad k ∷ es) p = weaken false es p
+weaken w (Failed d ∷ es) p = weaken false es p
 
 -- an operation begins
 pub time_begin : (w : Bool) (es : List Entry) (n : ℕ) (r : Begun) → EndsWhileWaiting true w es → EndsWhileWaiting false w (es ++ Mark (Begin n r) ∷ [])
@@ -47,32 +49,24 @@ time_begin w (Mark (Begin m q) ∷ es) n r p = time_begin false es n r p
 time_begin w (Mark (Cancel c0) ∷ es) n r p = time_begin false es n r p
 time_begin w (Mark (Level l0 l1 l2 l3) ∷ es) n r p = time_begin false es n r p
 time_begin w (Mark (Drain d0 d1) ∷ es) n r p = time_begin false es n r p
+time_begin w (Mark (Ordered d0 d1) ∷ es) n r p = time_begin false es n r p
 time_begin w (Mark (Wait t) ∷ es) n r p = time_begin true es n r p
 time_begin w (Bad k ∷ es) n r p = time_begin false es n r p
+time_begin w (Failed d ∷ es) n r p = time_begin false es n r p
 
--- an id is drawn
-pub time_drew : (w : Bool) (es : List Entry) (n : ℕ) (id : List ℕ) → EndsWhileWaiting false w es → EndsWhileWaiting false w (es ++ Mark (Drew n id) ∷ [])
-time_drew w [] n id p = tt
-time_drew w (Mark (End m o) ∷ es) n id p = (either_map (begins_among false es (Mark (Drew n id) ∷ [])) p.0, time_drew w es n id p.1)
-time_drew w (Mark (Drew m x) ∷ es) n id p = time_drew w es n id p
-time_drew w (Mark (Begin m q) ∷ es) n id p = time_drew false es n id p
-time_drew w (Mark (Cancel c0) ∷ es) n id p = time_drew false es n id p
-time_drew w (Mark (Level l0 l1 l2 l3) ∷ es) n id p = time_drew false es n id p
-time_drew w (Mark (Drain d0 d1) ∷ es) n id p = time_drew false es n id p
-time_drew w (Mark (Wait t) ∷ es) n id p = time_drew true es n id p
-time_drew w (Bad k ∷ es) n id p = time_drew false es n id p
-
--- a line is bad
-pub time_bad : (w : Bool) (es : List Entry) (number : ℕ) → EndsWhileWaiting false w es → EndsWhileWaiting false w (es ++ Bad number ∷ [])
-time_bad w [] number p = tt
-time_bad w (Mark (End m o) ∷ es) number p = (either_map (begins_among false es (Bad number ∷ [])) p.0, time_bad w es number p.1)
-time_bad w (Mark (Drew m x) ∷ es) number p = time_bad w es number p
-time_bad w (Mark (Begin m q) ∷ es) number p = time_bad false es number p
-time_bad w (Mark (Cancel c0) ∷ es) number p = time_bad false es number p
-time_bad w (Mark (Level l0 l1 l2 l3) ∷ es) number p = time_bad false es number p
-time_bad w (Mark (Drain d0 d1) ∷ es) number p = time_bad false es number p
-time_bad w (Mark (Wait t) ∷ es) number p = time_bad true es number p
-time_bad w (Bad k ∷ es) number p = time_bad false es number p
+-- an entry comes that ends nothing and begins nothing
+pub time_more : (w : Bool) (es : List Entry) (e : Entry) → ((v : Bool) → EndsWhileWaiting false v (e ∷ [])) → EndsWhileWaiting false w es → EndsWhileWaiting false w (es ++ e ∷ [])
+time_more w [] e alone p = alone w
+time_more w (Mark (End m o) ∷ es) e alone p = (either_map (begins_among false es (e ∷ [])) p.0, time_more w es e alone p.1)
+time_more w (Mark (Drew m x) ∷ es) e alone p = time_more w es e alone p
+time_more w (Mark (Begin m q) ∷ es) e alone p = time_more false es e alone p
+time_more w (Mark (Cancel c0) ∷ es) e alone p = time_more false es e alone p
+time_more w (Mark (Level l0 l1 l2 l3) ∷ es) e alone p = time_more false es e alone p
+time_more w (Mark (Drain d0 d1) ∷ es) e alone p = time_more false es e alone p
+time_more w (Mark (Ordered d0 d1) ∷ es) e alone p = time_more false es e alone p
+time_more w (Mark (Wait t) ∷ es) e alone p = time_more true es e alone p
+time_more w (Bad k ∷ es) e alone p = time_more false es e alone p
+time_more w (Failed d ∷ es) e alone p = time_more false es e alone p
 
 -- an operation ends, where the script may be over
 pub time_end : (w : Bool) (es : List Entry) (n : ℕ) (o : Outcome) → EndsWhileWaiting false w es → EndsWhileWaiting true w (es ++ Mark (End n o) ∷ [])
@@ -83,8 +77,10 @@ time_end w (Mark (Begin m q) ∷ es) n o p = time_end false es n o p
 time_end w (Mark (Cancel c0) ∷ es) n o p = time_end false es n o p
 time_end w (Mark (Level l0 l1 l2 l3) ∷ es) n o p = time_end false es n o p
 time_end w (Mark (Drain d0 d1) ∷ es) n o p = time_end false es n o p
+time_end w (Mark (Ordered d0 d1) ∷ es) n o p = time_end false es n o p
 time_end w (Mark (Wait t) ∷ es) n o p = time_end true es n o p
 time_end w (Bad k ∷ es) n o p = time_end false es n o p
+time_end w (Failed d ∷ es) n o p = time_end false es n o p
 
 -- behind a wait what was drawn and ended stands in time
 behind_wait : (later : List Entry) → AllByRecursion (λ e. is_later e ≡ true) later → EndsWhileWaiting false true later
@@ -95,8 +91,10 @@ behind_wait (Mark (Begin n r) ∷ es) all = absurd cc
 behind_wait (Mark (Cancel c0) ∷ es) all = absurd cc
 behind_wait (Mark (Level l0 l1 l2 l3) ∷ es) all = absurd cc
 behind_wait (Mark (Drain d0 d1) ∷ es) all = absurd cc
+behind_wait (Mark (Ordered d0 d1) ∷ es) all = absurd cc
 behind_wait (Mark (Wait t) ∷ es) all = absurd cc
 behind_wait (Bad k ∷ es) all = absurd cc
+behind_wait (Failed d ∷ es) all = absurd cc
 
 none_begins : (later : List Entry) → AllByRecursion (λ e. is_later e ≡ true) later → BeginsNext false later → ⊥
 none_begins [] all b = cc
@@ -116,5 +114,7 @@ time_wait w (Mark (Begin m q) ∷ es) later now t all also p = time_wait false e
 time_wait w (Mark (Cancel c0) ∷ es) later now t all also p = time_wait false es later now t all also p
 time_wait w (Mark (Level l0 l1 l2 l3) ∷ es) later now t all also p = time_wait false es later now t all also p
 time_wait w (Mark (Drain d0 d1) ∷ es) later now t all also p = time_wait false es later now t all also p
+time_wait w (Mark (Ordered d0 d1) ∷ es) later now t all also p = time_wait false es later now t all also p
 time_wait w (Mark (Wait u) ∷ es) later now t all also p = time_wait true es later now t all also p
 time_wait w (Bad k ∷ es) later now t all also p = time_wait false es later now t all also p
+time_wait w (Failed d ∷ es) later now t all also p = time_wait false es later now t all also p

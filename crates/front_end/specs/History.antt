@@ -6,7 +6,7 @@ use Rattle.blob_id.specs.Id.{drawn_id}
 use Rattle.blob_id.specs.declared.id.Kind.TheVariants.{Simple}
 use Rattle.world_model.specs.declared.history.Begun.{Begun}
 use Rattle.world_model.specs.declared.history.HistoryMark.{HistoryMark}
-use Rattle.world_model.specs.declared.history.HistoryMark.TheVariants.{Begin, Drew, End, Wait}
+use Rattle.world_model.specs.declared.history.HistoryMark.TheVariants.{Begin, Drew, End, Ordered, Wait}
 
 -- Two words that a random source gave, one after the other.
 abbrev pub GivesTwo : Option (ℕ → ℕ) → ℕ → ℕ → Option (ℕ → ℕ) → Type 0
@@ -63,6 +63,7 @@ after now (End n outcome) = record {
   first_end = with_first_end now.first_end (length now.open_operations);
 }
 after now (Wait t) = record now { waits = now.waits ++ t ∷ []; first_end = None }
+after now (Ordered order told) = record now { waits = []; first_end = None }
 after now _ = now
 
 abbrev pub after_all : Moment → List HistoryMark → Moment
@@ -85,6 +86,7 @@ MayCome window now (Begin n request) = (n ≡ now.begun_count + 1) × (length no
 MayCome window now (Drew n id) = Contains now.undrawn n
 MayCome window now (End n outcome) = Contains now.open_operations n × EndsInTime window now
 MayCome window now (Wait t) = Unit {0}
+MayCome window now (Ordered order told) = AllByRecursion (IsOver now.open_operations) now.waits
 MayCome window now _ = ⊥
 
 abbrev pub IsOrdered : ℕ → Moment → List HistoryMark → Type 0

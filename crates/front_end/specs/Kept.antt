@@ -25,11 +25,11 @@ IsNumbered count (Mark (Drew n id)) = IsWithin count n
 IsNumbered count (Mark (End n outcome)) = IsWithin count n
 IsNumbered count _ = Unit {0}
 
--- A past, up to the last entry of a script line and since then, is that of the script lines; these operations are open, and these have still to
--- draw an id.
-pub record IsPast (lines : List (List ℕ)) (known : List Tag) (past since : List Entry) (unfinished to_draw : List ℕ) : Type 0 where
+-- A past, up to the last entry of a script line and since then, is that of the script lines over so many nodes; these operations are open, and
+-- these have still to draw an id.
+pub record IsPast (nodes : ℕ) (lines : List (List ℕ)) (known : List Tag) (past since : List Entry) (unfinished to_draw : List ℕ) : Type 0 where
   pub tags : known ≡ tags_after [] lines
-  pub follows : Follows [] (past ++ since) (asked 1 [] lines)
+  pub follows : Follows nodes [] (past ++ since) (asked 1 [] lines)
   pub later : AllByRecursion (λ e. is_later e ≡ true) since
   pub front : front_after true past ≡ true
   pub waits : WaitsStandFirst true (past ++ since)

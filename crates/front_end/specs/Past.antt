@@ -1,14 +1,16 @@
 -- What ties a past to the script that was carried out.
-use Rattle.std.specs.Prelude.{◌≡◌, ◌⊎◌, ℕ, ◌+◌, List, [], ◌∷◌, ◌++◌, length, Bool, true, false, Option, None, Some, ◌==◌, not, if◌then◌else◌, option_and_then, MatchBool}
+use Rattle.std.specs.Prelude.{◌≡◌, ◌⊎◌, ℕ, ◌+◌, List, [], ◌∷◌, ◌++◌, length, nat_le, ◌&&◌, Bool, true, false, Option, None, Some, ◌==◌, not, if◌then◌else◌, option_and_then, MatchBool}
 use Rattle.front_end.specs.declared.tags.Tag.{Tag}
+use Rattle.front_end.specs.declared.script.Command.{Command}
 use Rattle.front_end.specs.declared.script.Command.TheVariants as command
 use Rattle.front_end.specs.declared.script.Target.{Target}
 use Rattle.quorum_op.specs.declared.outcome.Outcome.{Outcome}
 use Rattle.world_model.specs.declared.history.Begun.{Begun}
 use Rattle.world_model.specs.declared.history.HistoryMark.{HistoryMark}
-use Rattle.world_model.specs.declared.history.HistoryMark.TheVariants.{Begin, Drew, End, Wait}
+use Rattle.world_model.specs.declared.history.HistoryMark.TheVariants.{Begin, Drew, End, Ordered, Wait}
+use Rattle.world_model.specs.declared.order.Order.{Order}
 use Rattle.front_end.specs.declared.history.Entry.{Entry}
-use Rattle.front_end.specs.declared.history.Entry.TheVariants.{Mark, Bad}
+use Rattle.front_end.specs.declared.history.Entry.TheVariants.{Mark, Bad, Failed}
 use Rattle.front_end.specs.Script.{Asked, tag_number}
 
 -- the history: the marks among the entries
@@ -16,6 +18,7 @@ abbrev pub marks_of : List Entry → List HistoryMark
 marks_of [] = []
 marks_of (Mark mark ∷ entries) = mark ∷ marks_of entries
 marks_of (Bad number ∷ entries) = marks_of entries
+marks_of (Failed order ∷ entries) = marks_of entries
 
 -- the answer that an outcome gives: a put's id
 abbrev pub answer_in : Outcome → Option (List ℕ)
@@ -54,24 +57,41 @@ is_later (Mark (Drew n id)) = true
 is_later (Mark (End n outcome)) = true
 is_later _ = false
 
--- An entry is that of the script line, where these entries stand before it.
-abbrev pub IsOwn : List Entry → Asked → Entry → Type 0
-IsOwn before line (Bad number) = (line.command ≡ None) × (number ≡ line.number)
-IsOwn before line (Mark (Wait t)) = (line.command ≡ Some command.Wait) × (t ≡ None)
-IsOwn before line (Mark (Begin n (Begun.Put file body ttl ctype meta))) =
+-- whether an order is to one of so many nodes
+abbrev pub is_to_node : ℕ → Order → Bool
+is_to_node nodes (Order.Stop node) = nat_le 1 node && nat_le node nodes
+is_to_node nodes (Order.Restart node) = nat_le 1 node && nat_le node nodes
+is_to_node nodes _ = false
+
+-- a line is bad that asks for nothing, or orders something of a node that isn't there
+abbrev pub IsBad : ℕ → Option Command → Type 0
+IsBad nodes None = Unit {0}
+IsBad nodes (Some (command.Order order)) = is_to_node nodes order ≡ false
+IsBad nodes (Some asks) = ⊥
+
+abbrev pub IsOrder : ℕ → Option Command → Order → Type 0
+IsOrder nodes asks order = (asks ≡ Some (command.Order order)) × (is_to_node nodes order ≡ true)
+
+-- An entry is that of the script line, over so many nodes, where these entries stand before it.
+abbrev pub IsOwn : ℕ → List Entry → Asked → Entry → Type 0
+IsOwn nodes before line (Bad number) = IsBad nodes line.command × (number ≡ line.number)
+IsOwn nodes before line (Failed order) = IsOrder nodes line.command order
+IsOwn nodes before line (Mark (Ordered order told)) = IsOrder nodes line.command order
+IsOwn nodes before line (Mark (Wait t)) = (line.command ≡ Some command.Wait) × (t ≡ None)
+IsOwn nodes before line (Mark (Begin n (Begun.Put file body ttl ctype meta))) =
     (tag : List ℕ) × (line.command ≡ Some (command.Put tag body)) × (n ≡ length line.tags + 1) × (file ≡ []) × (ttl ≡ 0) × (ctype ≡ []) × (meta ≡ [])
-IsOwn before line (Mark (Begin n (Begun.Get id range file))) =
+IsOwn nodes before line (Mark (Begin n (Begun.Get id range file))) =
     (tag : List ℕ) × (of : Target) × (line.command ≡ Some (command.Get tag of)) × (n ≡ length line.tags + 1) × (id ≡ meant_by line.tags before of) × (range ≡ None) × (file ≡ [])
-IsOwn before line (Mark (Begin n (Begun.Delete id))) =
+IsOwn nodes before line (Mark (Begin n (Begun.Delete id))) =
     (tag : List ℕ) × (of : Target) × (line.command ≡ Some (command.Delete tag of)) × (n ≡ length line.tags + 1) × (id ≡ meant_by line.tags before of)
-IsOwn before line _ = ⊥
+IsOwn nodes before line _ = ⊥
 
 -- The entries follow the script: each is that of the next line, but for what was drawn and ended between them.
-abbrev pub Follows : List Entry → List Entry → List Asked → Type 0
-Follows before [] lines = lines ≡ []
-Follows before (entry ∷ entries) lines = MatchBool (is_later entry)
-    (Follows (before ++ entry ∷ []) entries lines)
-    ((line : Asked) × (more : List Asked) × (lines ≡ line ∷ more) × IsOwn before line entry × Follows (before ++ entry ∷ []) entries more)
+abbrev pub Follows : ℕ → List Entry → List Entry → List Asked → Type 0
+Follows nodes before [] lines = lines ≡ []
+Follows nodes before (entry ∷ entries) lines = MatchBool (is_later entry)
+    (Follows nodes (before ++ entry ∷ []) entries lines)
+    ((line : Asked) × (more : List Asked) × (lines ≡ line ∷ more) × IsOwn nodes before line entry × Follows nodes (before ++ entry ∷ []) entries more)
 
 abbrev pub is_wait : Entry → Bool
 is_wait (Mark (Wait t)) = true

@@ -28,10 +28,10 @@ use Rattle.front_end.specs.Transcript.{transcript_of}
 use Rattle.front_end.specs.Lines.{HasNoEnd, BeginsWith}
 use Rattle.front_end.specs.Session.{has_bad}
 
--- A past is that of these script lines, and it is in order. One operation is open at a time.
-pub record IsPastOf (over : Bool) (lines : List (List ℕ)) (entries : List Entry) : Type 0 where
+-- A past is that of these script lines over so many nodes, and it is in order. One operation is open at a time.
+pub record IsPastOf (nodes : ℕ) (over : Bool) (lines : List (List ℕ)) (entries : List Entry) : Type 0 where
   -- the entries are those of the lines, in order, with what was drawn and ended between them
-  pub follows : Follows [] entries (asked 1 [] lines)
+  pub follows : Follows nodes [] entries (asked 1 [] lines)
   -- a wait stands directly behind the entry of the script line before it
   pub waits : WaitsStandFirst true entries
   pub ordered : IsOrdered 1 start (marks_of entries)
@@ -102,40 +102,40 @@ outside_of left_old left_new taken_old taken_new words_old words_new =
     record { left_old = left_old; left_new = left_new; taken_old = taken_old; taken_new = taken_new; words_old = words_old; words_new = words_new }
 
 -- A run to the end of its script: each operation has ended, the whole transcript was written, and the ids were drawn with the words that were given.
-pub record HasFinished (partitions : ℕ) (tie : List HistoryMark → Type 0) (status : ℕ) (o : Outside) : Type 0 where
+pub record HasFinished (shape : Shape) (tie : List HistoryMark → Type 0) (status : ℕ) (o : Outside) : Type 0 where
   pub lines : List (List ℕ)
   pub entries : List Entry
   pub ending : Ending
-  pub past : IsPastOf true lines entries
+  pub past : IsPastOf shape.nodes true lines entries
   pub ended_last : OnlyLastEnds lines
   pub all_ended : (after_all start (marks_of entries)).open_operations ≡ []
   pub status_is : status ≡ status_of ending (has_bad entries)
   pub read : Read o.left_old o.left_new (HasEnded ending lines)
   pub wrote : Wrote o.taken_old o.taken_new (λ wrote. wrote ≡ transcript_of (tags_after [] lines) entries)
-  pub draws : DrawsInOrder partitions o.words_old (marks_of entries) o.words_new
+  pub draws : DrawsInOrder shape.partitions o.words_old (marks_of entries) o.words_new
   pub tied : tie (newest_first (marks_of entries))
 
 -- A run that stopped between two lines, at status 3 or 6: the transcript of the lines that were carried out was written, and no end line since.
 -- At 6 the line that was refused memory may have taken random words.
-pub record HasStopped (partitions : ℕ) (tie : List HistoryMark → Type 0) (o : Outside) (words_new : Option (ℕ → ℕ)) : Type 0 where
+pub record HasStopped (shape : Shape) (tie : List HistoryMark → Type 0) (o : Outside) (words_new : Option (ℕ → ℕ)) : Type 0 where
   pub lines : List (List ℕ)
   pub entries : List Entry
-  pub past : IsPastOf false lines entries
+  pub past : IsPastOf shape.nodes false lines entries
   pub ended_last : OnlyLastEnds lines
   pub read : Read o.left_old o.left_new (λ text left. AreRead lines text)
   pub wrote : Wrote o.taken_old o.taken_new (λ wrote. wrote ≡ transcript_of (tags_after [] lines) entries)
-  pub draws : DrawsInOrder partitions o.words_old (marks_of entries) words_new
+  pub draws : DrawsInOrder shape.partitions o.words_old (marks_of entries) words_new
   pub tied : tie (newest_first (marks_of entries))
 
 -- A run whose output failed: what was written is a front of the transcript.
-pub record WasCutOff (partitions : ℕ) (tie : List HistoryMark → Type 0) (o : Outside) : Type 0 where
+pub record WasCutOff (shape : Shape) (tie : List HistoryMark → Type 0) (o : Outside) : Type 0 where
   pub lines : List (List ℕ)
   pub entries : List Entry
-  pub past : IsPastOf true lines entries
+  pub past : IsPastOf shape.nodes true lines entries
   pub ended_last : OnlyLastEnds lines
   pub read : Read o.left_old o.left_new (λ text left. AreRead lines text)
   pub wrote : Wrote o.taken_old o.taken_new (IsFront (transcript_of (tags_after [] lines) entries))
-  pub draws : DrawsInOrder partitions o.words_old (marks_of entries) o.words_new
+  pub draws : DrawsInOrder shape.partitions o.words_old (marks_of entries) o.words_new
   pub tied : tie (newest_first (marks_of entries))
 
 abbrev pub usage_line : List ℕ
@@ -170,9 +170,9 @@ pub record IsUntouched (o : Outside) : Type 0 where
 pub record HasPlayed (shape : Shape) (given given' : List Move) (status : ℕ) (o : Outside) : Type 0 where
   pub moves : List Move
   pub gave : given' ≡ given ++ moves
-  pub run : HasFinished shape.partitions (IsRecorded shape moves) status o
-      ⊎ ((status ≡ 3) × HasStopped shape.partitions (IsRecorded shape moves) o o.words_new)
-      ⊎ ((status ≡ 4) × WasCutOff shape.partitions (IsRecorded shape moves) o)
+  pub run : HasFinished shape (IsRecorded shape moves) status o
+      ⊎ ((status ≡ 3) × HasStopped shape (IsRecorded shape moves) o o.words_new)
+      ⊎ ((status ≡ 4) × WasCutOff shape (IsRecorded shape moves) o)
 
 -- The run stopped for want of memory: what stands is of the lines before, and moves may have been given since. The line that was refused
 -- memory may have taken random words.
@@ -181,7 +181,7 @@ pub record HasStarved (shape : Shape) (given given' : List Move) (o : Outside) :
   pub since : List Move
   pub gave : given' ≡ given ++ (moves ++ since)
   pub words : Option (ℕ → ℕ)
-  pub stopped : HasStopped shape.partitions (IsRecorded shape moves) o words
+  pub stopped : HasStopped shape (IsRecorded shape moves) o words
 
 -- What a run may leave on a cluster of this shape: it came to its end or stopped, or was refused memory at a line, or before all lines.
 abbrev pub HasRun : Shape → List Move → List Move → ℕ → Outside → Type 0

@@ -4,7 +4,8 @@ use Rattle.std.specs.Io.KnownBytes.{Appends}
 use Rattle.world_model.specs.declared.history.HistoryMark.{HistoryMark}
 use Rattle.world_model.specs.declared.shape.Shape.{Shape}
 use Rattle.world_model.specs.declared.step.Called.{Called}
-use Rattle.world_model.specs.Fabric.{Image, KeepsRun}
+use Rattle.world_model.specs.Fabric.{KeepsRun}
+use Rattle.world_model.specs.World.{Cells}
 use Rattle.router_core.specs.Fits.{RouterView}
 use Rattle.front_end.specs.declared.run.Ending.{Ending}
 use Rattle.front_end.specs.declared.session.Session.{Session}
@@ -19,31 +20,31 @@ ReadSoFar None new waiting total lines = Unit {0}
 ReadSoFar (Some old) None waiting total lines = ⊥
 ReadSoFar (Some old) (Some new) waiting total lines = BeginsWith old lines (waiting ++ new) × ((gone : List ℕ) × (old ≡ gone ++ new) × (total ≡ length gone))
 
-pub record IsRunning (partitions : ℕ) (left_old left_new taken_old taken_new : Option (List ℕ)) (waiting : List ℕ) (total : ℕ) (s : Session) (tie : List HistoryMark → Type 0) (first now : Option (ℕ → ℕ)) : Type 0 where
+pub record IsRunning (shape : Shape) (left_old left_new taken_old taken_new : Option (List ℕ)) (waiting : List ℕ) (total : ℕ) (s : Session) (tie : List HistoryMark → Type 0) (first now : Option (ℕ → ℕ)) : Type 0 where
   pub lines : List (List ℕ)
   pub state : State
   pub keeps : Keeps s state
-  pub stands : StandsAt partitions lines state tie first now
+  pub stands : StandsAt shape lines state tie first now
   pub counted : state.lines ≡ length lines
   pub unended : NoneEnds [] lines
   pub read : ReadSoFar left_old left_new waiting total lines
   pub wrote : Wrote taken_old taken_new (λ wrote. wrote ≡ transcript_so_far state)
 
 -- A line was carried out, and these bytes of what it adds to the transcript were written.
-pub record RanLine (partitions : ℕ) (line : List ℕ) (lines : List (List ℕ)) (old : State) (new : Session) (tie : List HistoryMark → Type 0) (first now : Option (ℕ → ℕ)) (taken_old taken_new : Option (List ℕ)) (written : List ℕ → List ℕ → Type 0) : Type 0 where
+pub record RanLine (shape : Shape) (line : List ℕ) (lines : List (List ℕ)) (old : State) (new : Session) (tie : List HistoryMark → Type 0) (first now : Option (ℕ → ℕ)) (taken_old taken_new : Option (List ℕ)) (written : List ℕ → List ℕ → Type 0) : Type 0 where
   pub state : State
   pub keeps : Keeps new state
-  pub stands : StandsAt partitions (lines ++ line ∷ []) state tie first now
+  pub stands : StandsAt shape (lines ++ line ∷ []) state tie first now
   pub added : List ℕ
   pub bytes : List ℕ
   pub part : written added bytes
   pub wrote : Appends taken_old taken_new bytes
   pub transcript : transcript_so_far state ≡ transcript_so_far old ++ added
 
-abbrev pub RunsLine : ℕ → List ℕ → Session → Session → (before now : List HistoryMark → Type 0) → Option (ℕ → ℕ) → Option (ℕ → ℕ) → Option (List ℕ) → Option (List ℕ) → (List ℕ → List ℕ → Type 0) → Type 0
-RunsLine partitions line old new before now words_before words_now taken_old taken_new written =
-    (lines : List (List ℕ)) (state : State) (first : Option (ℕ → ℕ)) → Keeps old state → StandsAt partitions lines state before first words_before → state.lines ≡ length lines
-    → RanLine partitions line lines state new now first words_now taken_old taken_new written
+abbrev pub RunsLine : Shape → List ℕ → Session → Session → (before now : List HistoryMark → Type 0) → Option (ℕ → ℕ) → Option (ℕ → ℕ) → Option (List ℕ) → Option (List ℕ) → (List ℕ → List ℕ → Type 0) → Type 0
+RunsLine shape line old new before now words_before words_now taken_old taken_new written =
+    (lines : List (List ℕ)) (state : State) (first : Option (ℕ → ℕ)) → Keeps old state → StandsAt shape lines state before first words_before → state.lines ≡ length lines
+    → RanLine shape line lines state new now first words_now taken_old taken_new written
 
 -- all the bytes, or a front of them
 abbrev pub IsAll : List ℕ → List ℕ → Type 0
@@ -53,11 +54,11 @@ abbrev pub IsSome : List ℕ → List ℕ → Type 0
 IsSome added bytes = (rest : List ℕ) × (added ≡ bytes ++ rest)
 
 -- The lines of the script were carried out.
-pub record RanLines (partitions : ℕ) (left_old left_new taken_old taken_new : Option (List ℕ)) (s : Session) (tie : List HistoryMark → Type 0) (first now : Option (ℕ → ℕ)) (ending : Ending) : Type 0 where
+pub record RanLines (shape : Shape) (left_old left_new taken_old taken_new : Option (List ℕ)) (s : Session) (tie : List HistoryMark → Type 0) (first now : Option (ℕ → ℕ)) (ending : Ending) : Type 0 where
   pub lines : List (List ℕ)
   pub state : State
   pub keeps : Keeps s state
-  pub stands : StandsAt partitions lines state tie first now
+  pub stands : StandsAt shape lines state tie first now
   pub ended_last : OnlyLastEnds lines
   pub read : Read left_old left_new (HasEnded ending lines)
   pub wrote : Wrote taken_old taken_new (λ wrote. wrote ≡ transcript_so_far state)
@@ -70,16 +71,16 @@ pub record Closes (old new : Session) (before now : List HistoryMark → Type 0)
   pub part : written added bytes
   pub wrote : Appends taken_old taken_new bytes
 
--- what a network tells, and what it may become by answered calls, and by calls that may find no memory
+-- what a network tells, which runs it knows, and what it may become by answered calls, and by calls that may find no memory
 pub record Telling (F : Type 0) : Type 1 where
   pub told : F → Option (List Called)
-  pub image : F → Shape → List ℕ → Option Image
+  pub runs : F → Shape → List ℕ → Cells → Type 0
   pub goes : F → F → Type 0
   pub falls : F → F → Type 0
 
 -- a network's calls are still a run where they were one
 abbrev pub StillRuns : {F : Type 0} → Telling F → F → F → Type 0
-StillRuns t old new = (cluster : Shape) (place : List ℕ) → KeepsRun (t.told old) (t.image old cluster place) (t.told new) (t.image new cluster place)
+StillRuns t old new = (cluster : Shape) (place : List ℕ) → KeepsRun (t.runs old cluster place) (t.runs new cluster place)
 
 -- By answered calls alone a network became this one, and so it holds of what ties a router of this shape to its calls.
 pub record IsOn {F : Type 0} (t : Telling F) (shape : Shape) (old new : F) (holds : (List HistoryMark → Type 0) → Type 0) : Type 0 where

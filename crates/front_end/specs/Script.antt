@@ -4,10 +4,12 @@ use Rattle.std.specs.List.{slice_split, list_all}
 use Rattle.std.specs.Str.{bytes_eq}
 use Rattle.hex.specs.Hex.{decode_of, encode_lower}
 use Rattle.blob_id.specs.Id.{id_fault}
+use Rattle.run_words.specs.Reading.{number_at}
+use Rattle.world_model.specs.declared.order.Order.TheVariants as order
 use Rattle.world_model.specs.Pieces.{is_composite}
 use Rattle.front_end.specs.declared.tags.Tag.{Tag}
 use Rattle.front_end.specs.declared.script.Command.{Command}
-use Rattle.front_end.specs.declared.script.Command.TheVariants.{Skip, Put, Get, Delete, Wait, End}
+use Rattle.front_end.specs.declared.script.Command.TheVariants.{Skip, Put, Get, Delete, Order, Wait, End}
 use Rattle.front_end.specs.declared.script.Target.{Target}
 
 -- the bytes that a line has at most, without its end
@@ -132,10 +134,24 @@ abbrev pub put_line : List Tag → List ℕ → List ℕ → List ℕ → List �
 put_line tags word tag form digits =
     if (bytes_eq word (codes "put") && bytes_eq form (codes "hex")) && is_new_tag tags tag then put_of tag (bytes_of_digits digits) else None
 
--- `wait`, `end`, `get TAG ID`, `del TAG ID` or `put TAG hex HEX`
+-- a node has a number from 1 to 9
+abbrev pub node_of : ℕ → Option ℕ
+node_of number = if nat_le 1 number && nat_le number 9 then Some number else None
+
+-- a restart of a node, or else its stop
+abbrev pub node_command : Bool → ℕ → Command
+node_command true node = Order (order.Restart node)
+node_command false node = Order (order.Stop node)
+
+abbrev pub order_line : List ℕ → List ℕ → Option Command
+order_line word digits =
+    if bytes_eq word (codes "stop") || bytes_eq word (codes "restart") then option_map (node_command (bytes_eq word (codes "restart"))) (option_and_then node_of (number_at digits))
+    else None
+
+-- `wait`, `end`, `stop N`, `restart N`, `get TAG ID`, `del TAG ID` or `put TAG hex HEX`
 abbrev pub operation_of : List Tag → List ℕ → List (List ℕ) → Option Command
 operation_of tags word [] = one_word word
-operation_of tags word (tag ∷ []) = None
+operation_of tags word (digits ∷ []) = order_line word digits
 operation_of tags word (tag ∷ id ∷ []) = named_line tags word tag id
 operation_of tags word (tag ∷ form ∷ digits ∷ []) = put_line tags word tag form digits
 operation_of tags word (a ∷ b ∷ c ∷ d ∷ more) = None
@@ -155,6 +171,7 @@ with_tag tags (Some Skip) = tags
 with_tag tags (Some (Put tag body)) = tags ++ record { name = tag; is_put = true } ∷ []
 with_tag tags (Some (Get tag of)) = tags ++ record { name = tag; is_put = false } ∷ []
 with_tag tags (Some (Delete tag of)) = tags ++ record { name = tag; is_put = false } ∷ []
+with_tag tags (Some (Order ordered)) = tags
 with_tag tags (Some Wait) = tags
 with_tag tags (Some End) = tags
 
@@ -175,6 +192,7 @@ asked_by number tags (Some Skip) = []
 asked_by number tags (Some (Put tag body)) = record { number = number; tags = tags; command = Some (Put tag body) } ∷ []
 asked_by number tags (Some (Get tag of)) = record { number = number; tags = tags; command = Some (Get tag of) } ∷ []
 asked_by number tags (Some (Delete tag of)) = record { number = number; tags = tags; command = Some (Delete tag of) } ∷ []
+asked_by number tags (Some (Order ordered)) = record { number = number; tags = tags; command = Some (Order ordered) } ∷ []
 asked_by number tags (Some Wait) = record { number = number; tags = tags; command = Some Wait } ∷ []
 asked_by number tags (Some End) = []
 

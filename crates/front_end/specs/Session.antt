@@ -5,7 +5,10 @@ use Rattle.std.specs.List.{AllByRecursion}
 use Rattle.quorum_op.specs.declared.outcome.Outcome.{Outcome}
 use Rattle.world_model.specs.declared.history.Begun.{Begun}
 use Rattle.world_model.specs.declared.history.HistoryMark.{HistoryMark}
-use Rattle.world_model.specs.declared.history.HistoryMark.TheVariants.{Begin, Drew, End, Wait}
+use Rattle.world_model.specs.declared.history.HistoryMark.TheVariants.{Begin, Drew, End, Ordered, Wait}
+use Rattle.world_model.specs.declared.order.Order.{Order}
+use Rattle.world_model.specs.declared.order.Told.{Told}
+use Rattle.world_model.specs.declared.shape.Shape.{Shape}
 use Rattle.world_model.specs.declared.step.Called.{Called}
 use Rattle.world_model.specs.Pieces.{is_composite, is_simple}
 use Rattle.router_core.specs.Stands.{Stands, is_idle}
@@ -14,8 +17,8 @@ use Rattle.router_core.specs.Fits.{RouterView}
 use Rattle.front_end.specs.declared.tags.Tag.{Tag}
 use Rattle.front_end.specs.declared.session.Session.{Session}
 use Rattle.front_end.specs.declared.history.Entry.{Entry}
-use Rattle.front_end.specs.declared.history.Entry.TheVariants.{Mark, Bad}
-use Rattle.front_end.specs.History.{DrawsNext}
+use Rattle.front_end.specs.declared.history.Entry.TheVariants.{Mark, Bad, Failed}
+use Rattle.front_end.specs.History.{DrawsNext, IsOver, after_all, start}
 use Rattle.front_end.specs.declared.script.Command.TheVariants as command
 use Rattle.front_end.specs.declared.script.Target.{Target}
 use Rattle.front_end.specs.Script.{command_of}
@@ -91,11 +94,12 @@ abbrev pub has_bad : List Entry → Bool
 has_bad [] = false
 has_bad (Mark mark ∷ entries) = has_bad entries
 has_bad (Bad number ∷ entries) = true
+has_bad (Failed order ∷ entries) = has_bad entries
 
--- The script lines were carried out, over so many partitions, with these random words to come at first and now.
-pub record HasCarriedOut (partitions : ℕ) (lines : List (List ℕ)) (s : State) (tie : List HistoryMark → Type 0) (first now : Option (ℕ → ℕ)) : Type 0 where
-  pub past : IsPast lines s.tags s.settled s.later (live_numbers s.busy s.tags) []
-  pub kept : IsKept partitions (history_of s) tie first now
+-- The script lines were carried out, on a cluster of this shape, with these random words to come at first and now.
+pub record HasCarriedOut (shape : Shape) (lines : List (List ℕ)) (s : State) (tie : List HistoryMark → Type 0) (first now : Option (ℕ → ℕ)) : Type 0 where
+  pub past : IsPast shape.nodes lines s.tags s.settled s.later (live_numbers s.busy s.tags) []
+  pub kept : IsKept shape.partitions (history_of s) tie first now
   pub bad : s.bad ≡ has_bad (entries_of s)
 
 -- what is added to the transcript is what is added to the output
@@ -147,6 +151,13 @@ drawn_by s n id = record s { later = s.later ++ Mark (Drew n id) ∷ [] }
 abbrev pub waited_by : State → State
 waited_by s = record s { settled = s.settled ++ Mark (Wait None) ∷ [] }
 
+-- the state after an order that the network carried out, and after one at which it failed
+abbrev pub ordered_by : State → Order → Told → State
+ordered_by s order told = settled_by s (Mark (Ordered order told))
+
+abbrev pub failed_by : State → Order → State
+failed_by s order = settled_by s (Failed order)
+
 abbrev pub refused_by : State → State
 refused_by s = settled_by (record s { bad = true }) (Bad s.lines)
 
@@ -195,29 +206,37 @@ AsksPut tags line name body = command_of tags line ≡ Some (command.Put name bo
 abbrev pub AsksWait : List Tag → List ℕ → Type 0
 AsksWait tags line = command_of tags line ≡ Some command.Wait
 
+abbrev pub AsksOrder : List Tag → List ℕ → Order → Type 0
+AsksOrder tags line order = command_of tags line ≡ Some (command.Order order)
+
+-- the entry of the last line is that of an order at which the network failed
+abbrev pub HasFailed : Session → Session → Order → Type 0
+HasFailed old new order = new.settled ≡ (old.settled ++ old.later) ++ Failed order ∷ []
+
 abbrev pub AsksGet : List Tag → List ℕ → List ℕ → Target → Type 0
 AsksGet tags line name of = command_of tags line ≡ Some (command.Get name of)
 
 abbrev pub AsksDelete : List Tag → List ℕ → List ℕ → Target → Type 0
 AsksDelete tags line name of = command_of tags line ≡ Some (command.Delete name of)
 
--- The lines were carried out, and no end stands but while the script waited.
-pub record StandsAt (partitions : ℕ) (lines : List (List ℕ)) (s : State) (tie : List HistoryMark → Type 0) (first now : Option (ℕ → ℕ)) : Type 0 where
-  pub carried : HasCarriedOut partitions lines s tie first now
+-- The lines were carried out, what was waited for is over, and no end stands but while the script waited.
+pub record StandsAt (shape : Shape) (lines : List (List ℕ)) (s : State) (tie : List HistoryMark → Type 0) (first now : Option (ℕ → ℕ)) : Type 0 where
+  pub carried : HasCarriedOut shape lines s tie first now
+  pub waited : AllByRecursion (IsOver (after_all start (history_of s)).open_operations) (after_all start (history_of s)).waits
   pub in_time : EndsWhileWaiting false false (entries_of s)
 
 -- What a session is after a line: it keeps a state in which one line more was carried out, and what that adds to the transcript was added to the output.
-pub record HasGoneOn (partitions : ℕ) (line : List ℕ) (lines : List (List ℕ)) (old : State) (new : Session) (tie : List HistoryMark → Type 0) (first now : Option (ℕ → ℕ)) (old_out new_out : List ℕ) : Type 0 where
+pub record HasGoneOn (shape : Shape) (line : List ℕ) (lines : List (List ℕ)) (old : State) (new : Session) (tie : List HistoryMark → Type 0) (first now : Option (ℕ → ℕ)) (old_out new_out : List ℕ) : Type 0 where
   pub state : State
   pub keeps : Keeps new state
-  pub stands : StandsAt partitions (lines ++ line ∷ []) state tie first now
+  pub stands : StandsAt shape (lines ++ line ∷ []) state tie first now
   pub adds : Adds old_out new_out old state
 
 -- A line was carried out.
-abbrev pub CarriesOut : ℕ → List ℕ → Session → Session → (before now : List HistoryMark → Type 0) → Option (ℕ → ℕ) → Option (ℕ → ℕ) → List ℕ → List ℕ → Type 0
-CarriesOut partitions line old new before now words_before words_now old_out new_out =
-    (lines : List (List ℕ)) (state : State) (first : Option (ℕ → ℕ)) → Keeps old state → StandsAt partitions lines state before first words_before → state.lines ≡ 1 + length lines
-    → HasGoneOn partitions line lines state new now first words_now old_out new_out
+abbrev pub CarriesOut : Shape → List ℕ → Session → Session → (before now : List HistoryMark → Type 0) → Option (ℕ → ℕ) → Option (ℕ → ℕ) → List ℕ → List ℕ → Type 0
+CarriesOut shape line old new before now words_before words_now old_out new_out =
+    (lines : List (List ℕ)) (state : State) (first : Option (ℕ → ℕ)) → Keeps old state → StandsAt shape lines state before first words_before → state.lines ≡ 1 + length lines
+    → HasGoneOn shape line lines state new now first words_now old_out new_out
 
 -- a session that has carried out nothing
 abbrev pub nothing_yet : State

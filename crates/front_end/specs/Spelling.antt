@@ -2,10 +2,12 @@
 use Rattle.std.specs.Prelude.{◌≡◌, ◌⊎◌, ℕ, ◌<◌, ◌≤◌, List, [], ◌∷◌, length, true, false, None, Some, Ok, codes}
 use Rattle.hex.specs.Hex.{decode_of, encode_lower}
 use Rattle.blob_id.specs.Id.{IsId}
+use Rattle.run_words.specs.Options.{IsNumeral}
+use Rattle.world_model.specs.declared.order.Order.TheVariants as order
 use Rattle.world_model.specs.Pieces.{is_composite}
 use Rattle.front_end.specs.declared.tags.Tag.{Tag}
 use Rattle.front_end.specs.declared.script.Command.{Command}
-use Rattle.front_end.specs.declared.script.Command.TheVariants.{Skip, Put, Get, Delete, Wait, End}
+use Rattle.front_end.specs.declared.script.Command.TheVariants.{Skip, Put, Get, Delete, Order, Wait, End}
 use Rattle.front_end.specs.declared.script.Target.{Target}
 use Rattle.front_end.specs.Script.{longest_line, words_of, is_tag, tag_number, is_put_at}
 
@@ -30,12 +32,19 @@ abbrev pub SpellsTarget : List Tag → Target → List ℕ → Type 0
 SpellsTarget tags (Target.Tag of) word = (word ≡ 36 ∷ of) × IsTagOfPut tags of
 SpellsTarget tags (Target.Id id) word = (word ≡ encode_lower id) × IsId id × (is_composite id ≡ false)
 
--- `put TAG hex HEX`, `get TAG ID`, `del TAG ID`, `wait`, `end`, or nothing
+-- the number of a node, from 1 to 9, in 1 to 20 digits
+abbrev pub SpellsNode : ℕ → List ℕ → Type 0
+SpellsNode node digits = IsNumeral digits node × (1 ≤ node) × (node ≤ 9)
+
+-- `put TAG hex HEX`, `get TAG ID`, `del TAG ID`, `stop N`, `restart N`, `wait`, `end`, or nothing
 abbrev pub SpellsByWords : List Tag → Command → List (List ℕ) → Type 0
 SpellsByWords tags Skip words = IsNothing words
 SpellsByWords tags (Put tag body) words = (digits : List ℕ) × (words ≡ codes "put" ∷ tag ∷ codes "hex" ∷ digits ∷ []) × IsNewTag tags tag × IsHex digits body
 SpellsByWords tags (Get tag of) words = (id : List ℕ) × (words ≡ codes "get" ∷ tag ∷ id ∷ []) × IsNewTag tags tag × SpellsTarget tags of id
 SpellsByWords tags (Delete tag of) words = (id : List ℕ) × (words ≡ codes "del" ∷ tag ∷ id ∷ []) × IsNewTag tags tag × SpellsTarget tags of id
+SpellsByWords tags (Order (order.Stop node)) words = (digits : List ℕ) × (words ≡ codes "stop" ∷ digits ∷ []) × SpellsNode node digits
+SpellsByWords tags (Order (order.Restart node)) words = (digits : List ℕ) × (words ≡ codes "restart" ∷ digits ∷ []) × SpellsNode node digits
+SpellsByWords tags (Order _) words = ⊥
 SpellsByWords tags Wait words = words ≡ codes "wait" ∷ []
 SpellsByWords tags End words = words ≡ codes "end" ∷ []
 

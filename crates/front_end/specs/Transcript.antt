@@ -7,9 +7,13 @@ pub use Rattle.front_end.specs.Script.{name_of, name_or_none}
 use Rattle.quorum_op.specs.declared.cause.Cause.{Cause}
 use Rattle.quorum_op.specs.declared.outcome.Outcome.{Outcome}
 use Rattle.world_model.specs.declared.history.HistoryMark.{HistoryMark}
-use Rattle.world_model.specs.declared.history.HistoryMark.TheVariants.{Begin, Drew, End}
+use Rattle.world_model.specs.declared.history.HistoryMark.TheVariants.{Begin, Drew, End, Ordered}
+use Rattle.world_model.specs.declared.order.Order.{Order}
+use Rattle.world_model.specs.declared.order.PullCause.{PullCause}
+use Rattle.world_model.specs.declared.order.Told.{Told}
+use Rattle.world_model.specs.declared.order.What.{What}
 use Rattle.front_end.specs.declared.history.Entry.{Entry}
-use Rattle.front_end.specs.declared.history.Entry.TheVariants.{Mark, Bad}
+use Rattle.front_end.specs.declared.history.Entry.TheVariants.{Mark, Bad, Failed}
 
 -- `-` for no bytes, else lower-case digits
 abbrev pub spelled_bytes : List ℕ → List ℕ
@@ -69,10 +73,39 @@ outcome_words (Outcome.Missing id) = codes "missing " ++ encode_lower id
 outcome_words (Outcome.Corrupt id) = codes "corrupt " ++ encode_lower id
 outcome_words Outcome.Memory = codes "memory"
 
+-- an order of a script is one of these
+unfoldable pub order_words : Order → List ℕ
+order_words (Order.Stop node) = codes "stop " ++ decimal node
+order_words (Order.Restart node) = codes "restart " ++ decimal node
+order_words _ = []
+
+-- what is wrong with a disk
+unfoldable pub what_words : What → List ℕ
+what_words (What.Damaged place) = codes "damaged " ++ decimal place
+what_words What.OtherShape = codes "othershape"
+what_words (What.OtherSize size) = codes "othersize " ++ decimal size
+
+-- What came of an order. A stop and a restart come to nothing else.
+unfoldable pub told_words : Told → List ℕ
+told_words Told.Done = codes "ok"
+told_words Told.Already = codes "already"
+told_words (Told.Refused refusal) = codes "refused " ++ decimal refusal.partition ++ codes " " ++ what_words refusal.what
+told_words (Told.Stuck PullCause.Fault) = codes "stuck fault"
+told_words (Told.Stuck PullCause.Memory) = codes "stuck memory"
+told_words _ = []
+
+abbrev pub ordered_line : Order → Told → List ℕ
+ordered_line order told = order_words order ++ codes " " ++ told_words told ++ 10 ∷ []
+
+-- the network failed
+abbrev pub failed_line : Order → List ℕ
+failed_line order = order_words order ++ codes " failed" ++ 10 ∷ []
+
 abbrev pub mark_line : List Tag → HistoryMark → List ℕ
 mark_line tags (Begin n request) = name_of tags n ++ codes " begun" ++ 10 ∷ []
 mark_line tags (Drew n id) = name_of tags n ++ codes " drew " ++ encode_lower id ++ 10 ∷ []
 mark_line tags (End n outcome) = name_of tags n ++ codes " " ++ outcome_words outcome ++ 10 ∷ []
+mark_line tags (Ordered order told) = ordered_line order told
 mark_line tags _ = []
 
 abbrev pub bad_line : ℕ → List ℕ
@@ -81,6 +114,7 @@ bad_line number = codes "line " ++ decimal number ++ codes " bad" ++ 10 ∷ []
 unfoldable pub entry_line : List Tag → Entry → List ℕ
 entry_line tags (Mark mark) = mark_line tags mark
 entry_line tags (Bad number) = bad_line number
+entry_line tags (Failed order) = failed_line order
 
 abbrev pub transcript_of : List Tag → List Entry → List ℕ
 transcript_of tags entries = flat_map (entry_line tags) entries

@@ -6,14 +6,17 @@ ghost use Rattle.front_end.specs.Outline.{outline_begun, outline_outcome, outlin
 use blob_id::Bytes;
 use quorum_op::Outcome;
 use std::alloc::Global;
-use world_model::{Begun, HistoryMark};
+use world_model::{Begun, HistoryMark, Order};
 
-/// What happened between two lines of the transcript: a mark of the history, or a bad line.
+/// What happened between two lines of the transcript: a mark of the history, a bad line, or an order at which the network
+/// failed.
 #[derive(Debug, Drop)]
 pub enum Entry {
     Mark(HistoryMark),
     /// The script line of this number is bad.
     Bad(u32),
+    /// The network failed at this order, and did nothing.
+    Failed(Order),
 }
 
 /// The entry without the bytes of a body. It takes no memory.

@@ -1,12 +1,11 @@
 //! The top call.
 
-ghost use Rattle.std.specs.Prelude.{◌≡◌, ◌≢◌, ◌⊎◌, ◌++◌, [], ◌<◌, ◌≤◌, ◌+◌, ℕ, List, Option, Some, true};
+ghost use Rattle.std.specs.Prelude.{◌≡◌, ◌≢◌, ◌⊎◌, ◌++◌, ◌∷◌, [], ◌<◌, ◌≤◌, ◌+◌, ℕ, List, Option, Some, true};
 ghost use Rattle.outside.specs.Causes.{Rose};
 ghost use Rattle.outside.specs.Words.{started};
 ghost use Rattle.mem_fabric.specs.Network.{nothing_held};
 ghost use Rattle.run_words.specs.Settings.{Spells};
 ghost use Rattle.run_words.specs.declared.settings.Settings.{Settings as SettingsValue};
-ghost use Rattle.world_model.specs.Fabric.{RunsTo};
 ghost use Rattle.world_model.specs.Shape.{IsShape};
 ghost use Rattle.front_end.specs.Run.{HasRun, IsUntouched, WasRefused, Wrote, IsFront, outside_of, usage_line};
 
@@ -34,12 +33,13 @@ pub fn run_lab<S: Source, K: Sink, M: Moves, U: Random>(
     // Words outside the grammar are told, and nothing else is done, unless there is no memory to read them.
     ensures refused { ((settings : SettingsValue) → Spells settings words.now → ⊥) → WasRefused result (M.given moves.old) (M.given moves.new) (outside_of (S.left input.old) (S.left input.new) (K.taken output.old) (K.taken output.new) (U.ahead random.old) (U.ahead random.new))
         ⊎ (result ≡ 6) × (M.given moves.new ≡ M.given moves.old) × IsUntouched (outside_of (S.left input.old) (S.left input.new) (K.taken output.old) (K.taken output.new) (U.ahead random.old) (U.ahead random.new)) }
+    ensures unbegun { ((settings : SettingsValue) → Spells settings words.now → ⊥) → M.seeds moves.new ≡ M.seeds moves.old }
 
     // Otherwise the bytes that were read and written have a history, which is in order, and behind it stands a record of what the
-    // network and the router did, which is safe. Where the random source can't be started, or there is no memory to read the
-    // words, nothing is done.
-    ensures run { (settings : SettingsValue) → Spells settings words.now → HasRun settings.shape (M.given moves.old) (M.given moves.new) result (outside_of (S.left input.old) (S.left input.new) (K.taken output.old) (K.taken output.new) (started U.seeded settings.ids (U.ahead random.old)) (U.ahead random.new))
-        ⊎ ((result ≡ 5) ⊎ (result ≡ 6)) × (M.given moves.new ≡ M.given moves.old) × IsUntouched (outside_of (S.left input.old) (S.left input.new) (K.taken output.old) (K.taken output.new) (U.ahead random.old) (U.ahead random.new)) }
+    // network and the router did, which is safe; the schedule was begun once, with the seed of the words. Where the random source
+    // can't be started, or there is no memory to read the words, nothing is done.
+    ensures run { (settings : SettingsValue) → Spells settings words.now → HasRun settings.shape (M.given moves.old) (M.given moves.new) result (outside_of (S.left input.old) (S.left input.new) (K.taken output.old) (K.taken output.new) (started U.seeded settings.ids (U.ahead random.old)) (U.ahead random.new)) × (M.seeds moves.new ≡ M.seeds moves.old ++ settings.seed ∷ [])
+        ⊎ ((result ≡ 5) ⊎ (result ≡ 6)) × (M.given moves.new ≡ M.given moves.old) × (M.seeds moves.new ≡ M.seeds moves.old) × IsUntouched (outside_of (S.left input.old) (S.left input.new) (K.taken output.old) (K.taken output.new) (U.ahead random.old) (U.ahead random.new)) }
 
     // A failure is answered only where it happened.
     ensures source { result ≡ 3 → Rose (S.faults input.old) (S.faults input.new) }
@@ -76,8 +76,8 @@ fn run_settings<S: Source, K: Sink, M: Moves, U: Random>(
 ) -> u8
     requires shape { IsShape settings.now.shape }
     requires limit { settings.now.shape.chunk ≡ 65536 }
-    ensures run { HasRun settings.now.shape (M.given moves.old) (M.given moves.new) result (outside_of (S.left input.old) (S.left input.new) (K.taken output.old) (K.taken output.new) (started U.seeded settings.now.ids (U.ahead random.old)) (U.ahead random.new))
-        ⊎ (result ≡ 5) × (M.given moves.new ≡ M.given moves.old) × IsUntouched (outside_of (S.left input.old) (S.left input.new) (K.taken output.old) (K.taken output.new) (U.ahead random.old) (U.ahead random.new)) }
+    ensures run { HasRun settings.now.shape (M.given moves.old) (M.given moves.new) result (outside_of (S.left input.old) (S.left input.new) (K.taken output.old) (K.taken output.new) (started U.seeded settings.now.ids (U.ahead random.old)) (U.ahead random.new)) × (M.seeds moves.new ≡ M.seeds moves.old ++ settings.now.seed ∷ [])
+        ⊎ (result ≡ 5) × (M.given moves.new ≡ M.given moves.old) × (M.seeds moves.new ≡ M.seeds moves.old) × IsUntouched (outside_of (S.left input.old) (S.left input.new) (K.taken output.old) (K.taken output.new) (U.ahead random.old) (U.ahead random.new)) }
     ensures source { result ≡ 3 → Rose (S.faults input.old) (S.faults input.new) }
     ensures sink { result ≡ 4 → Rose (K.faults output.old) (K.faults output.new) }
     ensures random { result ≡ 5 → Rose (U.faults random.old) (U.faults random.new) }
@@ -106,9 +106,10 @@ fn run_cluster<S: Source, K: Sink, N: Moves, U: Random>(
     requires limit { shape.now.chunk ≡ 65536 }
     requires fresh { ⟦<MemFabric<N> as Fabric>⟧.fresh fabric.old ≡ true }
     requires told { ⟦<MemFabric<N> as Fabric>⟧.told fabric.old ≡ Some [] }
-    requires empty { (cluster : _) (place : List ℕ) → RunsTo nothing_held (⟦<MemFabric<N> as Fabric>⟧.told fabric.old) (⟦<MemFabric<N> as Fabric>⟧.image fabric.old cluster place) }
+    requires empty { (cluster : _) (place : List ℕ) → ⟦<MemFabric<N> as Fabric>⟧.runs fabric.old cluster place nothing_held }
     ensures run { HasRun shape.now (N.given fabric.old.moves) (N.given fabric.new.moves) result (outside_of (S.left input.old) (S.left input.new) (K.taken output.old) (K.taken output.new) (U.ahead random.old) (U.ahead random.new)) }
     ensures same { N.same fabric.old.moves fabric.new.moves }
+    ensures seeds { N.seeds fabric.new.moves ≡ N.seeds fabric.old.moves }
     ensures never { result ≢ 5 }
     ensures source { result ≡ 3 → Rose (S.faults input.old) (S.faults input.new) }
     ensures sink { result ≡ 4 → Rose (K.faults output.old) (K.faults output.new) }

@@ -44,11 +44,11 @@ pub(crate) fn run_script<S: Source, K: Sink, U: Random, F: Fabric>(
     requires limit { shape.now.chunk ≡ 65536 }
     requires open { F.opened fabric.old ≡ Some shape.now }
     requires quiet { (router : _) → Stands router [] → ties_of router (F.told fabric.old) [] }
-    ensures finished { IfOk result (λ status. IsOn (record { told = F.told; image = F.image; goes = F.goes; falls = F.falls }) shape.now fabric.old fabric.new (λ tie. HasFinished shape.now.partitions tie status (outside_of (S.left input.old) (S.left input.new) (K.taken output.old) (K.taken output.new) (U.ahead random.old) (U.ahead random.new)))) }
+    ensures finished { IfOk result (λ status. IsOn (record { told = F.told; runs = F.runs; goes = F.goes; falls = F.falls }) shape.now fabric.old fabric.new (λ tie. HasFinished shape.now tie status (outside_of (S.left input.old) (S.left input.new) (K.taken output.old) (K.taken output.new) (U.ahead random.old) (U.ahead random.new)))) }
     ensures status { IfOk result (λ status. (status ≡ 0) ⊎ ((status ≡ 2) ⊎ (status ≡ 8))) }
-    ensures stopped { IsErrOf result Stop.Source → IsOn (record { told = F.told; image = F.image; goes = F.goes; falls = F.falls }) shape.now fabric.old fabric.new (λ tie. HasStopped shape.now.partitions tie (outside_of (S.left input.old) (S.left input.new) (K.taken output.old) (K.taken output.new) (U.ahead random.old) (U.ahead random.new)) (U.ahead random.new)) }
-    ensures cut { IsErrOf result Stop.Sink → IsOn (record { told = F.told; image = F.image; goes = F.goes; falls = F.falls }) shape.now fabric.old fabric.new (λ tie. WasCutOff shape.now.partitions tie (outside_of (S.left input.old) (S.left input.new) (K.taken output.old) (K.taken output.new) (U.ahead random.old) (U.ahead random.new))) }
-    ensures refused { IsErrOf result Stop.Memory → (words : _) × WasOn (record { told = F.told; image = F.image; goes = F.goes; falls = F.falls }) shape.now fabric.old fabric.new (λ tie. HasStopped shape.now.partitions tie (outside_of (S.left input.old) (S.left input.new) (K.taken output.old) (K.taken output.new) (U.ahead random.old) (U.ahead random.new)) words) }
+    ensures stopped { IsErrOf result Stop.Source → IsOn (record { told = F.told; runs = F.runs; goes = F.goes; falls = F.falls }) shape.now fabric.old fabric.new (λ tie. HasStopped shape.now tie (outside_of (S.left input.old) (S.left input.new) (K.taken output.old) (K.taken output.new) (U.ahead random.old) (U.ahead random.new)) (U.ahead random.new)) }
+    ensures cut { IsErrOf result Stop.Sink → IsOn (record { told = F.told; runs = F.runs; goes = F.goes; falls = F.falls }) shape.now fabric.old fabric.new (λ tie. WasCutOff shape.now tie (outside_of (S.left input.old) (S.left input.new) (K.taken output.old) (K.taken output.new) (U.ahead random.old) (U.ahead random.new))) }
+    ensures refused { IsErrOf result Stop.Memory → (words : _) × WasOn (record { told = F.told; runs = F.runs; goes = F.goes; falls = F.falls }) shape.now fabric.old fabric.new (λ tie. HasStopped shape.now tie (outside_of (S.left input.old) (S.left input.new) (K.taken output.old) (K.taken output.new) (U.ahead random.old) (U.ahead random.new)) words) }
     ensures source { IsErrOf result Stop.Source → Rose (S.faults input.old) (S.faults input.new) }
     ensures sink { IsErrOf result Stop.Sink → Rose (K.faults output.old) (K.faults output.new) }
     ensures opened { F.opened fabric.new ≡ F.opened fabric.old }
@@ -78,7 +78,7 @@ fn finish<K: Sink, F: Fabric>(
     ensures later { K.faults output.old ≤ K.faults output.new }
     ensures sink { IsErrOf result Stop.Sink → Rose (K.faults output.old) (K.faults output.new) }
     ensures opened { F.opened fabric.new ≡ F.opened fabric.old }
-    ensures run { StillRuns (record { told = F.told; image = F.image; goes = F.goes; falls = F.falls }) fabric.old fabric.new }
+    ensures run { StillRuns (record { told = F.told; runs = F.runs; goes = F.goes; falls = F.falls }) fabric.old fabric.new }
     ensures goes { OnOk result (F.goes fabric.old fabric.new) }
     ensures falls { F.falls fabric.old fabric.new }
 {
@@ -128,20 +128,20 @@ fn run_line<K: Sink, U: Random, F: Fabric>(
     requires tags { length session.old.tags ≤ session.old.lines }
     requires ready { IsReady session.old }
     requires open { F.opened fabric.old ≡ Some session.old.router.shape }
-    ensures carried { OnOk result (RunsLine session.old.router.shape.partitions line.now session.old session.new (ties_of session.old.router (F.told fabric.old)) (ties_of session.new.router (F.told fabric.new)) (U.ahead random.old) (U.ahead random.new) (K.taken output.old) (K.taken output.new) IsAll) }
+    ensures carried { OnOk result (RunsLine session.old.router.shape line.now session.old session.new (ties_of session.old.router (F.told fabric.old)) (ties_of session.new.router (F.told fabric.new)) (U.ahead random.old) (U.ahead random.new) (K.taken output.old) (K.taken output.new) IsAll) }
     ensures goes_on { IfOk result (λ more. MatchBool more (command_of session.old.tags line.now ≢ Some TheEnd) (command_of session.old.tags line.now ≡ Some TheEnd)) }
     ensures lines { OnOk result (session.new.lines ≡ session.old.lines + 1) }
     ensures tags { OnOk result (length session.new.tags ≤ session.new.lines) }
     ensures ready { OnOk result (IsReady session.new) }
     ensures shape { session.new.router.shape ≡ session.old.router.shape }
-    ensures cut { IsErrOf result Stop.Sink → RunsLine session.old.router.shape.partitions line.now session.old session.new (ties_of session.old.router (F.told fabric.old)) (ties_of session.new.router (F.told fabric.new)) (U.ahead random.old) (U.ahead random.new) (K.taken output.old) (K.taken output.new) IsSome }
+    ensures cut { IsErrOf result Stop.Sink → RunsLine session.old.router.shape line.now session.old session.new (ties_of session.old.router (F.told fabric.old)) (ties_of session.new.router (F.told fabric.new)) (U.ahead random.old) (U.ahead random.new) (K.taken output.old) (K.taken output.new) IsSome }
     ensures cut_goes { IsErrOf result Stop.Sink → F.goes fabric.old fabric.new }
     ensures memory { IsErrOf result Stop.Memory → Appends (K.taken output.old) (K.taken output.new) [] }
     ensures source { IfErr result (λ e. e ≢ Stop.Source) }
     ensures later { K.faults output.old ≤ K.faults output.new }
     ensures cause { IsErrOf result Stop.Sink → Rose (K.faults output.old) (K.faults output.new) }
     ensures opened { F.opened fabric.new ≡ F.opened fabric.old }
-    ensures run { StillRuns (record { told = F.told; image = F.image; goes = F.goes; falls = F.falls }) fabric.old fabric.new }
+    ensures run { StillRuns (record { told = F.told; runs = F.runs; goes = F.goes; falls = F.falls }) fabric.old fabric.new }
     ensures goes { OnOk result (F.goes fabric.old fabric.new) }
     ensures falls { F.falls fabric.old fabric.new }
 {
@@ -162,22 +162,22 @@ fn run_lines<S: Source, K: Sink, U: Random, F: Fabric>(
     output: &mut K,
     random: &mut U,
 ) -> Result<Ending, Stop>
-    requires fresh { IsRunning session.old.router.shape.partitions (S.left input.old) (S.left input.old) (K.taken output.old) (K.taken output.old) [] 0 session.old (ties_of session.old.router (F.told fabric.old)) (U.ahead random.old) (U.ahead random.old) }
+    requires fresh { IsRunning session.old.router.shape (S.left input.old) (S.left input.old) (K.taken output.old) (K.taken output.old) [] 0 session.old (ties_of session.old.router (F.told fabric.old)) (U.ahead random.old) (U.ahead random.old) }
     requires lines { session.old.lines ≡ 0 }
     requires tags { length session.old.tags ≡ 0 }
     requires ready { IsReady session.old }
     requires open { F.opened fabric.old ≡ Some session.old.router.shape }
-    ensures ran { IfOk result (λ ending. RanLines session.old.router.shape.partitions (S.left input.old) (S.left input.new) (K.taken output.old) (K.taken output.new) session.new (ties_of session.new.router (F.told fabric.new)) (U.ahead random.old) (U.ahead random.new) ending) }
+    ensures ran { IfOk result (λ ending. RanLines session.old.router.shape (S.left input.old) (S.left input.new) (K.taken output.old) (K.taken output.new) session.new (ties_of session.new.router (F.told fabric.new)) (U.ahead random.old) (U.ahead random.new) ending) }
     ensures ready { OnOk result (IsReady session.new) }
     ensures shape { session.new.router.shape ≡ session.old.router.shape }
-    ensures stopped { IsErrOf result Stop.Source → IsOn (record { told = F.told; image = F.image; goes = F.goes; falls = F.falls }) session.old.router.shape fabric.old fabric.new (λ tie. HasStopped session.old.router.shape.partitions tie (outside_of (S.left input.old) (S.left input.new) (K.taken output.old) (K.taken output.new) (U.ahead random.old) (U.ahead random.new)) (U.ahead random.new)) }
-    ensures cut { IsErrOf result Stop.Sink → IsOn (record { told = F.told; image = F.image; goes = F.goes; falls = F.falls }) session.old.router.shape fabric.old fabric.new (λ tie. WasCutOff session.old.router.shape.partitions tie (outside_of (S.left input.old) (S.left input.new) (K.taken output.old) (K.taken output.new) (U.ahead random.old) (U.ahead random.new))) }
-    ensures refused { IsErrOf result Stop.Memory → (words : _) × WasOn (record { told = F.told; image = F.image; goes = F.goes; falls = F.falls }) session.old.router.shape fabric.old fabric.new (λ tie. HasStopped session.old.router.shape.partitions tie (outside_of (S.left input.old) (S.left input.new) (K.taken output.old) (K.taken output.new) (U.ahead random.old) (U.ahead random.new)) words) }
+    ensures stopped { IsErrOf result Stop.Source → IsOn (record { told = F.told; runs = F.runs; goes = F.goes; falls = F.falls }) session.old.router.shape fabric.old fabric.new (λ tie. HasStopped session.old.router.shape tie (outside_of (S.left input.old) (S.left input.new) (K.taken output.old) (K.taken output.new) (U.ahead random.old) (U.ahead random.new)) (U.ahead random.new)) }
+    ensures cut { IsErrOf result Stop.Sink → IsOn (record { told = F.told; runs = F.runs; goes = F.goes; falls = F.falls }) session.old.router.shape fabric.old fabric.new (λ tie. WasCutOff session.old.router.shape tie (outside_of (S.left input.old) (S.left input.new) (K.taken output.old) (K.taken output.new) (U.ahead random.old) (U.ahead random.new))) }
+    ensures refused { IsErrOf result Stop.Memory → (words : _) × WasOn (record { told = F.told; runs = F.runs; goes = F.goes; falls = F.falls }) session.old.router.shape fabric.old fabric.new (λ tie. HasStopped session.old.router.shape tie (outside_of (S.left input.old) (S.left input.new) (K.taken output.old) (K.taken output.new) (U.ahead random.old) (U.ahead random.new)) words) }
     ensures source { IsErrOf result Stop.Source → Rose (S.faults input.old) (S.faults input.new) }
     ensures sink { IsErrOf result Stop.Sink → Rose (K.faults output.old) (K.faults output.new) }
     ensures later { K.faults output.old ≤ K.faults output.new }
     ensures opened { F.opened fabric.new ≡ F.opened fabric.old }
-    ensures run { StillRuns (record { told = F.told; image = F.image; goes = F.goes; falls = F.falls }) fabric.old fabric.new }
+    ensures run { StillRuns (record { told = F.told; runs = F.runs; goes = F.goes; falls = F.falls }) fabric.old fabric.new }
     ensures goes { OnOk result (F.goes fabric.old fabric.new) }
     ensures falls { F.falls fabric.old fabric.new }
 {

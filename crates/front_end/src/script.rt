@@ -5,14 +5,17 @@ ghost use Rattle.std.specs.Str.{bytes_eq};
 ghost use Rattle.std.specs.List.{list_all};
 ghost use Rattle.std.specs.Option.{option_copied};
 ghost use Rattle.front_end.specs.declared.script.Command.{Command as Asks};
-ghost use Rattle.front_end.specs.Script.{is_blank, words_of, is_comment, is_letter, is_tag_byte, is_tag, tag_kind, is_new_tag, bytes_of_digits, tag_target, id_of_digits, id_target, behind_dollar, target_of, named_command, one_word, named_line, put_line, operation_of, command_of_words, command_of};
+ghost use Rattle.front_end.specs.Script.{is_blank, words_of, is_comment, is_letter, is_tag_byte, is_tag, tag_kind, is_new_tag, bytes_of_digits, tag_target, id_of_digits, id_target, behind_dollar, target_of, named_command, node_command, node_of, one_word, named_line, order_line, put_line, operation_of, command_of_words, command_of};
 ghost use Rattle.front_end.specs.Spelling.{Spells};
+ghost use Rattle.run_words.specs.Reading.{number_at};
 
 use crate::tags::Tags;
 use blob_id::{BlobId, Bytes, Kind, Memory};
 use hex::FromHexError;
+use run_words::number_of;
 use std::alloc::{AllocError, Global};
 use std::str;
+use world_model::Order;
 
 /// What a script line asks for.
 #[derive(Debug, Drop)]
@@ -23,6 +26,8 @@ pub enum Command {
     Put { tag: Bytes, body: Bytes },
     Get { tag: Bytes, of: Target },
     Delete { tag: Bytes, of: Target },
+    /// Stops a node, or lets it run again. The node has a number from 1 to 9; the cluster may have fewer.
+    Order(Order),
     /// Waits until nothing is open.
     Wait,
     /// Ends the script.
@@ -94,7 +99,7 @@ fn read_operation(
 {
     match rest {
         [] => Ok(read_one_word(word)),
-        [_] => Ok(None),
+        [digits] => Ok(read_order(word, digits)),
         [tag, id] => read_named(alloc, word, tag, id, tags),
         [tag, form, digits] => read_put(alloc, word, tag, form, digits, tags),
         [_, _, _, _, ..] => Ok(None),
@@ -110,6 +115,40 @@ fn read_one_word(word: &[u8]) -> Option<Command>
         Some(Command::End)
     } else {
         None
+    }
+}
+
+/// Reads a line that orders something of a node.
+fn read_order(word: &[u8], digits: &[u8]) -> Option<Command>
+    ensures { result ≡ order_line word.now digits.now }
+{
+    let is_restart = is_same(word, b"restart");
+    if !(is_same(word, b"stop") || is_restart) {
+        return None;
+    }
+    let node = read_node(digits)?;
+    Some(node_command(is_restart, node))
+}
+
+/// The node that 1 to 20 digits name.
+fn read_node(digits: &[u8]) -> Option<u32>
+    ensures { result ≡ option_and_then node_of (number_at digits.now) }
+{
+    let number = number_of(digits)?;
+    if 1 <= number && number <= 9 {
+        Some(number as u32)
+    } else {
+        None
+    }
+}
+
+fn node_command(is_restart: bool, node: u32) -> Command
+    ensures { result ≡ node_command is_restart node }
+{
+    if is_restart {
+        Command::Order(Order::Restart(node))
+    } else {
+        Command::Order(Order::Stop(node))
     }
 }
 

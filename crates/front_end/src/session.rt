@@ -2,10 +2,12 @@
 
 ghost use Rattle.std.specs.Prelude.{◌≡◌, ◌≢◌, MatchBool, ◌≤◌, ◌<◌, ◌+◌, ◌-◌, ◌^◌, ◌++◌, ◌∷◌, [], List, ℕ, length, true, false, OnOk, IfOk, Some, None, Option, slice_set, IfSome};
 ghost use Rattle.std.specs.List.{AllByRecursion};
+ghost use Rattle.outside.specs.Causes.{Rose};
 ghost use Rattle.quorum_op.specs.declared.outcome.Outcome.TheVariants as outcome;
 ghost use Rattle.world_model.specs.declared.history.Begun.{Begun};
 ghost use Rattle.world_model.specs.declared.history.HistoryMark.{HistoryMark};
-ghost use Rattle.world_model.specs.declared.history.HistoryMark.TheVariants.{Begin, Drew, End};
+ghost use Rattle.world_model.specs.declared.history.HistoryMark.TheVariants.{Begin, Drew, End, Ordered};
+ghost use Rattle.world_model.specs.declared.order.Order.{Order};
 ghost use Rattle.world_model.specs.declared.shape.Shape.{Shape};
 ghost use Rattle.world_model.specs.declared.step.Called.{Called};
 ghost use Rattle.world_model.specs.Fabric.{KeepsRun};
@@ -17,8 +19,9 @@ ghost use Rattle.front_end.specs.Outline.{outline_begun, outline_entry};
 ghost use Rattle.front_end.specs.Script.{command_of, tag_number};
 ghost use Rattle.router_core.specs.Stands.{Stands, is_idle};
 ghost use Rattle.front_end.specs.Transcript.{entry_line};
-ghost use Rattle.front_end.specs.Past.{answer_in, meant_by, named_by};
-ghost use Rattle.front_end.specs.Session.{State, Keeps, Becomes, StandsAt, HasGoneOn, IsReady, IsSimpleAnswer, Finishes, Starts, Stores, entries_of, ended_by, begun_by, refused_by, answer_at, answered, AsksPut, AsksGet, AsksDelete, AsksWait, CarriesOut, IsNotComposite, delete_of, get_of, nothing_yet, put_of, ties_of};
+ghost use Rattle.front_end.specs.Outline.{IsPlain};
+ghost use Rattle.front_end.specs.Past.{answer_in, is_to_node, meant_by, named_by};
+ghost use Rattle.front_end.specs.Session.{State, HasFailed, Keeps, Becomes, StandsAt, HasGoneOn, IsReady, IsSimpleAnswer, Finishes, Starts, Stores, entries_of, ended_by, begun_by, refused_by, settled_by, answer_at, answered, AsksPut, AsksGet, AsksDelete, AsksOrder, AsksWait, CarriesOut, IsNotComposite, delete_of, get_of, nothing_yet, put_of, ties_of};
 
 use crate::history::{Entry, outline_of};
 use crate::script::{Command, Target, read_line};
@@ -29,7 +32,7 @@ use outside::Random;
 use quorum_op::Outcome;
 use router_core::{Ended, Router};
 use std::alloc::Global;
-use world_model::{Begun, Fabric, HistoryMark, Shape};
+use world_model::{Begun, Fabric, HistoryMark, Order, SendFault, Shape};
 
 /// What a session keeps.
 #[derive(Drop)]
@@ -84,7 +87,7 @@ impl Session {
         ensures ready { OnOk result (IsReady self.new) }
         ensures shape { self.new.router.shape ≡ self.old.router.shape }
         ensures opened { F.opened fabric.new ≡ F.opened fabric.old }
-        ensures run { (cluster : Shape) (place : List ℕ) → KeepsRun (F.told fabric.old) (F.image fabric.old cluster place) (F.told fabric.new) (F.image fabric.new cluster place) }
+        ensures run { (cluster : Shape) (place : List ℕ) → KeepsRun (F.runs fabric.old cluster place) (F.runs fabric.new cluster place) }
         ensures goes { OnOk result (F.goes fabric.old fabric.new) }
         ensures falls { F.falls fabric.old fabric.new }
     {
@@ -132,21 +135,36 @@ impl Session {
         self.settled.push(entry)
     }
 
+    /// Writes the line of a script line's own entry, and adds the entry.
+    fn add(&mut self, entry: Entry, out: &mut Vec<u8>) -> Result<(), Memory>
+        requires ready { IsReady self.old }
+        requires plain { IsPlain entry }
+        ensures state { OnOk result (Becomes self.old self.new (λ state. settled_by state entry)) }
+        ensures settled { OnOk result (self.new.settled ≡ (self.old.settled ++ self.old.later) ++ entry ∷ []) }
+        ensures lines { OnOk result (self.new.lines ≡ self.old.lines) }
+        ensures tags { OnOk result (self.new.tags ≡ self.old.tags) }
+        ensures told { OnOk result (out.new.items ≡ out.old.items ++ entry_line self.old.tags entry) }
+        ensures ready { OnOk result (IsReady self.new) }
+        ensures router { self.new.router ≡ self.old.router }
+    {
+        write_entry(out, &self.tags, &entry)?;
+        self.settle(entry)?;
+        Ok(())
+    }
+
     /// A bad line.
     fn refuse(&mut self, out: &mut Vec<u8>) -> Result<(), Memory>
         requires ready { IsReady self.old }
         ensures state { OnOk result (Becomes self.old self.new refused_by) }
+        ensures settled { OnOk result (self.new.settled ≡ (self.old.settled ++ self.old.later) ++ Bad self.old.lines ∷ []) }
         ensures lines { OnOk result (self.new.lines ≡ self.old.lines) }
         ensures tags { OnOk result (self.new.tags ≡ self.old.tags) }
         ensures told { OnOk result (out.new.items ≡ out.old.items ++ entry_line self.old.tags (Bad self.old.lines)) }
         ensures ready { OnOk result (IsReady self.new) }
         ensures router { self.new.router ≡ self.old.router }
     {
-        let entry = Entry::Bad(self.lines);
-        write_entry(out, &self.tags, &entry)?;
         self.bad = true;
-        self.settle(entry)?;
-        Ok(())
+        self.add(Entry::Bad(self.lines), out)
     }
 
     /// Begins an operation, and says its number.
@@ -202,7 +220,7 @@ impl Session {
         ensures ready { OnOk result (IsReady self.new) }
         ensures shape { self.new.router.shape ≡ self.old.router.shape }
         ensures opened { F.opened fabric.new ≡ F.opened fabric.old }
-        ensures run { (cluster : Shape) (place : List ℕ) → KeepsRun (F.told fabric.old) (F.image fabric.old cluster place) (F.told fabric.new) (F.image fabric.new cluster place) }
+        ensures run { (cluster : Shape) (place : List ℕ) → KeepsRun (F.runs fabric.old cluster place) (F.runs fabric.new cluster place) }
         ensures goes { OnOk result (F.goes fabric.old fabric.new) }
         ensures falls { F.falls fabric.old fabric.new }
     {
@@ -239,7 +257,7 @@ impl Session {
         ensures ready { OnOk result (IsReady self.new) }
         ensures shape { self.new.router.shape ≡ self.old.router.shape }
         ensures opened { F.opened fabric.new ≡ F.opened fabric.old }
-        ensures run { (cluster : Shape) (place : List ℕ) → KeepsRun (F.told fabric.old) (F.image fabric.old cluster place) (F.told fabric.new) (F.image fabric.new cluster place) }
+        ensures run { (cluster : Shape) (place : List ℕ) → KeepsRun (F.runs fabric.old cluster place) (F.runs fabric.new cluster place) }
         ensures goes { OnOk result (F.goes fabric.old fabric.new) }
         ensures falls { F.falls fabric.old fabric.new }
     {
@@ -267,11 +285,11 @@ impl Session {
         ensures lines { OnOk result (self.new.lines ≡ self.old.lines) }
         ensures tags { OnOk result (length self.new.tags ≡ length self.old.tags + 1) }
         ensures carried { OnOk result ((line : List ℕ) → AsksPut self.old.tags line name body
-            → CarriesOut self.old.router.shape.partitions line self.old self.new (ties_of self.old.router (F.told fabric.old)) (ties_of self.new.router (F.told fabric.new)) (U.ahead random.old) (U.ahead random.new) out.old.items out.new.items) }
+            → CarriesOut self.old.router.shape line self.old self.new (ties_of self.old.router (F.told fabric.old)) (ties_of self.new.router (F.told fabric.new)) (U.ahead random.old) (U.ahead random.new) out.old.items out.new.items) }
         ensures ready { OnOk result (IsReady self.new) }
         ensures shape { self.new.router.shape ≡ self.old.router.shape }
         ensures opened { F.opened fabric.new ≡ F.opened fabric.old }
-        ensures run { (cluster : Shape) (place : List ℕ) → KeepsRun (F.told fabric.old) (F.image fabric.old cluster place) (F.told fabric.new) (F.image fabric.new cluster place) }
+        ensures run { (cluster : Shape) (place : List ℕ) → KeepsRun (F.runs fabric.old cluster place) (F.runs fabric.new cluster place) }
         ensures goes { OnOk result (F.goes fabric.old fabric.new) }
         ensures falls { F.falls fabric.old fabric.new }
     {
@@ -304,11 +322,11 @@ impl Session {
         ensures lines { OnOk result (self.new.lines ≡ self.old.lines) }
         ensures tags { OnOk result (length self.new.tags ≡ length self.old.tags + 1) }
         ensures carried { OnOk result ((line : List ℕ) (words : Option (ℕ → ℕ)) → AsksGet self.old.tags line name of
-            → CarriesOut self.old.router.shape.partitions line self.old self.new (ties_of self.old.router (F.told fabric.old)) (ties_of self.new.router (F.told fabric.new)) words words out.old.items out.new.items) }
+            → CarriesOut self.old.router.shape line self.old self.new (ties_of self.old.router (F.told fabric.old)) (ties_of self.new.router (F.told fabric.new)) words words out.old.items out.new.items) }
         ensures ready { OnOk result (IsReady self.new) }
         ensures shape { self.new.router.shape ≡ self.old.router.shape }
         ensures opened { F.opened fabric.new ≡ F.opened fabric.old }
-        ensures run { (cluster : Shape) (place : List ℕ) → KeepsRun (F.told fabric.old) (F.image fabric.old cluster place) (F.told fabric.new) (F.image fabric.new cluster place) }
+        ensures run { (cluster : Shape) (place : List ℕ) → KeepsRun (F.runs fabric.old cluster place) (F.runs fabric.new cluster place) }
         ensures goes { OnOk result (F.goes fabric.old fabric.new) }
         ensures falls { F.falls fabric.old fabric.new }
     {
@@ -336,11 +354,11 @@ impl Session {
         ensures lines { OnOk result (self.new.lines ≡ self.old.lines) }
         ensures tags { OnOk result (length self.new.tags ≡ length self.old.tags + 1) }
         ensures carried { OnOk result ((line : List ℕ) (words : Option (ℕ → ℕ)) → AsksDelete self.old.tags line name of
-            → CarriesOut self.old.router.shape.partitions line self.old self.new (ties_of self.old.router (F.told fabric.old)) (ties_of self.new.router (F.told fabric.new)) words words out.old.items out.new.items) }
+            → CarriesOut self.old.router.shape line self.old self.new (ties_of self.old.router (F.told fabric.old)) (ties_of self.new.router (F.told fabric.new)) words words out.old.items out.new.items) }
         ensures ready { OnOk result (IsReady self.new) }
         ensures shape { self.new.router.shape ≡ self.old.router.shape }
         ensures opened { F.opened fabric.new ≡ F.opened fabric.old }
-        ensures run { (cluster : Shape) (place : List ℕ) → KeepsRun (F.told fabric.old) (F.image fabric.old cluster place) (F.told fabric.new) (F.image fabric.new cluster place) }
+        ensures run { (cluster : Shape) (place : List ℕ) → KeepsRun (F.runs fabric.old cluster place) (F.runs fabric.new cluster place) }
         ensures goes { OnOk result (F.goes fabric.old fabric.new) }
         ensures falls { F.falls fabric.old fabric.new }
     {
@@ -363,17 +381,75 @@ impl Session {
         ensures lines { OnOk result (self.new.lines ≡ self.old.lines) }
         ensures tags { OnOk result (length self.new.tags ≡ length self.old.tags) }
         ensures carried { OnOk result ((line : List ℕ) (words : Option (ℕ → ℕ)) → AsksWait self.old.tags line
-            → CarriesOut self.old.router.shape.partitions line self.old self.new (ties_of self.old.router (F.told fabric.old)) (ties_of self.new.router (F.told fabric.new)) words words out.old.items out.new.items) }
+            → CarriesOut self.old.router.shape line self.old self.new (ties_of self.old.router (F.told fabric.old)) (ties_of self.new.router (F.told fabric.new)) words words out.old.items out.new.items) }
         ensures ready { OnOk result (IsReady self.new) }
         ensures shape { self.new.router.shape ≡ self.old.router.shape }
         ensures opened { F.opened fabric.new ≡ F.opened fabric.old }
-        ensures run { (cluster : Shape) (place : List ℕ) → KeepsRun (F.told fabric.old) (F.image fabric.old cluster place) (F.told fabric.new) (F.image fabric.new cluster place) }
+        ensures run { (cluster : Shape) (place : List ℕ) → KeepsRun (F.runs fabric.old cluster place) (F.runs fabric.new cluster place) }
         ensures goes { OnOk result (F.goes fabric.old fabric.new) }
         ensures falls { F.falls fabric.old fabric.new }
     {
         self.settled.push(Entry::Mark(HistoryMark::Wait(None)))?;
         self.finish(alloc, fabric, out)?;
         Ok(())
+    }
+
+    /// Orders something of a node that is there, and takes the events that come of it. An operation that is open stays so.
+    fn order<F: Fabric>(
+        &mut self,
+        alloc: Global,
+        order: Order,
+        fabric: &mut F,
+        out: &mut Vec<u8>,
+    ) -> Result<(), Memory>
+        requires ready { IsReady self.old }
+        requires open { F.opened fabric.old ≡ Some self.old.router.shape }
+        requires there { is_to_node self.old.router.shape.nodes order ≡ true }
+        ensures lines { OnOk result (self.new.lines ≡ self.old.lines) }
+        ensures tags { OnOk result (self.new.tags ≡ self.old.tags) }
+        ensures carried { OnOk result ((line : List ℕ) (words : Option (ℕ → ℕ)) → AsksOrder self.old.tags line order
+            → CarriesOut self.old.router.shape line self.old self.new (ties_of self.old.router (F.told fabric.old)) (ties_of self.new.router (F.told fabric.new)) words words out.old.items out.new.items) }
+        ensures failed { OnOk result (HasFailed self.old self.new order → Rose (F.faults fabric.old) (F.faults fabric.new)) }
+        ensures ready { OnOk result (IsReady self.new) }
+        ensures shape { self.new.router.shape ≡ self.old.router.shape }
+        ensures opened { F.opened fabric.new ≡ F.opened fabric.old }
+        ensures run { (cluster : Shape) (place : List ℕ) → KeepsRun (F.runs fabric.old cluster place) (F.runs fabric.new cluster place) }
+        ensures goes { OnOk result (F.goes fabric.old fabric.new) }
+        ensures falls { F.falls fabric.old fabric.new }
+    {
+        match self.router.order(alloc, &order, fabric) {
+            Ok(told) => self.add(Entry::Mark(HistoryMark::Ordered { order, told }), out),
+            Err(SendFault::Failed) => self.add(Entry::Failed(order), out),
+            Err(SendFault::Memory) => Err(Memory),
+        }
+    }
+
+    /// Carries out an order line, which is bad where its node isn't there.
+    fn order_or_refuse<F: Fabric>(
+        &mut self,
+        alloc: Global,
+        order: Order,
+        fabric: &mut F,
+        out: &mut Vec<u8>,
+    ) -> Result<(), Memory>
+        requires ready { IsReady self.old }
+        requires open { F.opened fabric.old ≡ Some self.old.router.shape }
+        ensures lines { OnOk result (self.new.lines ≡ self.old.lines) }
+        ensures tags { OnOk result (self.new.tags ≡ self.old.tags) }
+        ensures carried { OnOk result ((line : List ℕ) (words : Option (ℕ → ℕ)) → AsksOrder self.old.tags line order
+            → CarriesOut self.old.router.shape line self.old self.new (ties_of self.old.router (F.told fabric.old)) (ties_of self.new.router (F.told fabric.new)) words words out.old.items out.new.items) }
+        ensures failed { OnOk result (HasFailed self.old self.new order → Rose (F.faults fabric.old) (F.faults fabric.new)) }
+        ensures ready { OnOk result (IsReady self.new) }
+        ensures shape { self.new.router.shape ≡ self.old.router.shape }
+        ensures opened { F.opened fabric.new ≡ F.opened fabric.old }
+        ensures run { (cluster : Shape) (place : List ℕ) → KeepsRun (F.runs fabric.old cluster place) (F.runs fabric.new cluster place) }
+        ensures goes { OnOk result (F.goes fabric.old fabric.new) }
+        ensures falls { F.falls fabric.old fabric.new }
+    {
+        if !is_to_node(self.router.nodes(), &order) {
+            return self.refuse(out);
+        }
+        self.order(alloc, order, fabric, out)
     }
 
     /// Carries out a script line, and says whether the script goes on.
@@ -389,14 +465,16 @@ impl Session {
         requires tags { length self.old.tags ≤ self.old.lines }
         requires ready { IsReady self.old }
         requires open { F.opened fabric.old ≡ Some self.old.router.shape }
-        ensures carried { OnOk result ((lines : List (List ℕ)) (state : State) (first : Option (ℕ → ℕ)) → Keeps self.old state → StandsAt self.old.router.shape.partitions lines state (ties_of self.old.router (F.told fabric.old)) first (U.ahead random.old)
-            → state.lines ≡ length lines → HasGoneOn self.old.router.shape.partitions line.now lines state self.new (ties_of self.new.router (F.told fabric.new)) first (U.ahead random.new) out.old.items out.new.items) }
+        ensures carried { OnOk result ((lines : List (List ℕ)) (state : State) (first : Option (ℕ → ℕ)) → Keeps self.old state → StandsAt self.old.router.shape lines state (ties_of self.old.router (F.told fabric.old)) first (U.ahead random.old)
+            → state.lines ≡ length lines → HasGoneOn self.old.router.shape line.now lines state self.new (ties_of self.new.router (F.told fabric.new)) first (U.ahead random.new) out.old.items out.new.items) }
+        // An order is answered as failed only where the network failed.
+        ensures failed { OnOk result ((order : Order) → AsksOrder self.old.tags line.now order → HasFailed self.old self.new order → Rose (F.faults fabric.old) (F.faults fabric.new)) }
         ensures lines { OnOk result (self.new.lines ≡ self.old.lines + 1) }
         ensures tags { OnOk result (length self.new.tags ≤ self.new.lines) }
         ensures ready { OnOk result (IsReady self.new) }
         ensures shape { self.new.router.shape ≡ self.old.router.shape }
         ensures opened { F.opened fabric.new ≡ F.opened fabric.old }
-        ensures run { (cluster : Shape) (place : List ℕ) → KeepsRun (F.told fabric.old) (F.image fabric.old cluster place) (F.told fabric.new) (F.image fabric.new cluster place) }
+        ensures run { (cluster : Shape) (place : List ℕ) → KeepsRun (F.runs fabric.old cluster place) (F.runs fabric.new cluster place) }
         ensures goes { OnOk result (F.goes fabric.old fabric.new) }
         ensures falls { F.falls fabric.old fabric.new }
         ensures goes_on { IfOk result (λ more. MatchBool more (command_of self.old.tags line.now ≢ Some TheEnd) (command_of self.old.tags line.now ≡ Some TheEnd)) }
@@ -408,6 +486,7 @@ impl Session {
             Some(Command::Put { tag, body }) => self.put(alloc, tag, body, random, fabric, out)?,
             Some(Command::Get { tag, of }) => self.get(alloc, tag, of, fabric, out)?,
             Some(Command::Delete { tag, of }) => self.delete(alloc, tag, of, fabric, out)?,
+            Some(Command::Order(order)) => self.order_or_refuse(alloc, order, fabric, out)?,
             Some(Command::Wait) => self.wait(alloc, fabric, out)?,
             Some(Command::End) => return Ok(false),
         }
@@ -437,6 +516,16 @@ impl Session {
             Some(number) => answer_at(self.answers.as_slice(), number),
             None => None,
         }
+    }
+}
+
+/// Whether an order is to one of so many nodes.
+fn is_to_node(nodes: u32, order: &Order) -> bool
+    ensures { result ≡ is_to_node nodes order.now }
+{
+    match order {
+        Order::Stop(node) | Order::Restart(node) => 1 <= *node && *node <= nodes,
+        Order::Pull(..) | Order::Compact(..) | Order::Level(..) => false,
     }
 }
 

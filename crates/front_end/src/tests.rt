@@ -5,7 +5,7 @@ use blob_id::Words;
 use outside::{BytesSink, BytesSource, CountRandom, FailRandom, Random};
 use std::alloc::Global;
 use std::test::Fail;
-use world_model::{ListMoves, Move};
+use world_model::{HistoryMark, ListMoves, Move, Order, PullCause, Refusal, Told, What};
 
 const BEGUN: &[u8] = b"a begun\na drew 0100000000000000000040008000000000000000\n";
 
@@ -293,6 +293,128 @@ fn lines_that_name_no_blob_are_bad(rt: HostRuntime) -> Result<(), Fail> {
     ];
     for script in table {
         let (status, output) = run(alloc, &["run", "--nodes=1"], script, Vec::new(alloc))?;
+        assert_eq!(rt; status, 2);
+        assert_eq!(rt; output.bytes(), b"line 1 bad\n".as_slice());
+    }
+    Ok(())
+}
+
+/// Whether a run over three nodes and one partition gives this transcript.
+fn gives_on_three(alloc: Global, script: &[u8], transcript: &[u8]) -> Result<bool, Fail> {
+    let words = ["run", "--partitions", "1"];
+    let (status, output) = run(alloc, &words, script, Vec::new(alloc))?;
+    Ok(status == 0 && output.bytes() == transcript)
+}
+
+/// The same of the part behind the put's first lines.
+fn gives_behind_a_put(alloc: Global, script: &[u8], rest: &[u8]) -> Result<bool, Fail> {
+    let words = ["run", "--partitions", "1"];
+    let (status, output) = run(alloc, &words, script, Vec::new(alloc))?;
+    Ok(status == 0 && is_begun_and(output.bytes(), rest))
+}
+
+#[test]
+fn a_get_needs_nodes_that_run(rt: HostRuntime) -> Result<(), Fail> {
+    let alloc = rt.alloc();
+    let table: [(&[u8], &[u8]); 4] = [
+        (
+            b"put a hex 6161\nwait\nstop 1\nstop 2\nget b $a\nwait\n",
+            b"a ok 0100000000000000000040008000000000000000\nstop 1 ok\nstop 2 ok\nb begun\nb unavailable 0100000000000000000040008000000000000000 1:broken 2:broken\n",
+        ),
+        (
+            b"put a hex 6161\nwait\nstop 2\nget b $a\nwait\n",
+            b"a ok 0100000000000000000040008000000000000000\nstop 2 ok\nb begun\nb ok 2 6161\n",
+        ),
+        (
+            b"put a hex 6161\nwait\nstop 1\nstop 2\nstop 3\nrestart 1\nrestart 2\nrestart 3\nget b $a\nwait\n",
+            b"a ok 0100000000000000000040008000000000000000\nstop 1 ok\nstop 2 ok\nstop 3 ok\nrestart 1 ok\nrestart 2 ok\nrestart 3 ok\nb begun\nb ok 2 6161\n",
+        ),
+        // The put goes on behind the stop, and two replicas are enough.
+        (
+            b"put a hex 6161\nstop 1\nwait\n",
+            b"stop 1 ok\na ok 0100000000000000000040008000000000000000\n",
+        ),
+    ];
+    for (script, rest) in table {
+        assert!(rt; gives_behind_a_put(alloc, script, rest)?);
+    }
+    Ok(())
+}
+
+#[test]
+fn orders_say_what_came_of_them(rt: HostRuntime) -> Result<(), Fail> {
+    let alloc = rt.alloc();
+    let table: [(&[u8], &[u8]); 4] = [
+        (b"stop 2\nstop 2\n", b"stop 2 ok\nstop 2 already\n"),
+        (b"restart 3\n", b"restart 3 already\n"),
+        (b"stop 01\nrestart 001\n", b"stop 1 ok\nrestart 1 ok\n"),
+        (b"stop 00000000000000000003\n", b"stop 3 ok\n"),
+    ];
+    for (script, transcript) in table {
+        assert!(rt; gives_on_three(alloc, script, transcript)?);
+    }
+    Ok(())
+}
+
+fn refused(partition: u32, what: What) -> Told {
+    Told::Refused(Refusal {
+        node: 1,
+        partition,
+        what,
+    })
+}
+
+#[test]
+fn what_came_of_an_order_is_spelled(rt: HostRuntime) -> Result<(), Fail> {
+    let alloc = rt.alloc();
+    let tags = Tags::new(alloc);
+    let table: [(Told, &[u8]); 7] = [
+        (Told::Done, b"restart 1 ok\n"),
+        (Told::Already, b"restart 1 already\n"),
+        (
+            refused(3, What::Damaged(4096)),
+            b"restart 1 refused 3 damaged 4096\n",
+        ),
+        (
+            refused(0, What::OtherShape),
+            b"restart 1 refused 0 othershape\n",
+        ),
+        (
+            refused(63, What::OtherSize(65_536)),
+            b"restart 1 refused 63 othersize 65536\n",
+        ),
+        (Told::Stuck(PullCause::Fault), b"restart 1 stuck fault\n"),
+        (Told::Stuck(PullCause::Memory), b"restart 1 stuck memory\n"),
+    ];
+    for (told, line) in table {
+        let mut out = Vec::new(alloc);
+        let order = Order::Restart(1);
+        let entry = Entry::Mark(HistoryMark::Ordered { order, told });
+        write_entry(&mut out, &tags, &entry)?;
+        assert_eq!(rt; out.as_slice(), line);
+    }
+    let mut out = Vec::new(alloc);
+    write_entry(&mut out, &tags, &Entry::Failed(Order::Stop(9)))?;
+    assert_eq!(rt; out.as_slice(), b"stop 9 failed\n".as_slice());
+    Ok(())
+}
+
+#[test]
+fn orders_of_no_node_are_bad(rt: HostRuntime) -> Result<(), Fail> {
+    let alloc = rt.alloc();
+    let table: [&[u8]; 9] = [
+        b"stop 4\n",
+        b"restart 4\n",
+        b"stop 0\n",
+        b"stop 10\n",
+        b"stop 000000000000000000001\n",
+        b"stop\n",
+        b"stop 1 2\n",
+        b"stop x\n",
+        b"stops 1\n",
+    ];
+    for script in table {
+        let (status, output) = run(alloc, &["run", "--nodes=3"], script, Vec::new(alloc))?;
         assert_eq!(rt; status, 2);
         assert_eq!(rt; output.bytes(), b"line 1 bad\n".as_slice());
     }

@@ -3,7 +3,7 @@
 ghost use Rattle.std.specs.Prelude.{◌≡◌, ◌<◌, ◌++◌, ◌∷◌, [], length, take, codes, flat_map, slice_index, OnOk, OnErr};
 ghost use Rattle.std.specs.Fmt.{decimal};
 ghost use Rattle.hex.specs.Hex.{encode_lower, lower_digits};
-ghost use Rattle.front_end.specs.Transcript.{spelled_bytes, sized_bytes, cause_word, failure_words, failures_words, properties_words, type_words, outcome_words, entry_line, bad_line};
+ghost use Rattle.front_end.specs.Transcript.{spelled_bytes, sized_bytes, cause_word, failure_words, failures_words, properties_words, type_words, order_words, ordered_line, outcome_words, told_words, what_words, entry_line, bad_line, failed_line};
 ghost use Rattle.front_end.specs.Pieces.{piece_text, BeginsWith};
 
 use crate::history::Entry;
@@ -11,7 +11,7 @@ use crate::tags::Tags;
 use blob_id::{BlobId, Memory};
 use itoa::Buffer;
 use quorum_op::{Cause, Failures, Outcome};
-use world_model::HistoryMark;
+use world_model::{HistoryMark, Order, PullCause, Told, What};
 
 /// A piece of a line.
 #[derive(Clone, Copy)]
@@ -50,6 +50,7 @@ pub fn write_entry(out: &mut Vec<u8>, tags: &Tags, entry: &Entry) -> Result<(), 
         Entry::Mark(HistoryMark::End(number, outcome)) => {
             write_end(out, tags.name_of(*number), outcome)
         }
+        Entry::Mark(HistoryMark::Ordered { order, told }) => write_ordered(out, order, told),
         Entry::Mark(
             HistoryMark::Wait(_)
             | HistoryMark::Cancel(_)
@@ -57,6 +58,7 @@ pub fn write_entry(out: &mut Vec<u8>, tags: &Tags, entry: &Entry) -> Result<(), 
             | HistoryMark::Drain { .. },
         ) => Ok(()),
         Entry::Bad(line) => write_bad(out, *line),
+        Entry::Failed(order) => write_failed(out, order),
     }
 }
 
@@ -112,6 +114,87 @@ fn write_bad(out: &mut Vec<u8>, line: u32) -> Result<(), Memory>
             Piece::Text(b" bad\n"),
         ],
     )
+}
+
+fn write_ordered(out: &mut Vec<u8>, order: &Order, told: &Told) -> Result<(), Memory>
+    ensures ok { OnOk result (out.new.items ≡ out.old.items ++ ordered_line order.now told.now) }
+    ensures err { OnErr result (out.new.items ≡ out.old.items) }
+{
+    let (word, node) = order_pieces(order);
+    let (text, partition, what, place) = told_pieces(told);
+    write_pieces(
+        out,
+        &[
+            Piece::Text(word),
+            node,
+            Piece::Text(b" "),
+            Piece::Text(text),
+            partition,
+            Piece::Text(what),
+            place,
+            Piece::Text(b"\n"),
+        ],
+    )
+}
+
+fn write_failed(out: &mut Vec<u8>, order: &Order) -> Result<(), Memory>
+    ensures ok { OnOk result (out.new.items ≡ out.old.items ++ failed_line order.now) }
+    ensures err { OnErr result (out.new.items ≡ out.old.items) }
+{
+    let (word, node) = order_pieces(order);
+    write_pieces(out, &[Piece::Text(word), node, Piece::Text(b" failed\n")])
+}
+
+/// The words of an order: a text, and the node behind it.
+#[tactic(auto, unfolding(crate::specs::Transcript::order_words))]
+fn order_pieces(order: &Order) -> (&'static [u8], Piece<'static>)
+    ensures { result.0.now ++ piece_text result.1 ≡ order_words order.now }
+{
+    match order {
+        Order::Stop(node) => (b"stop ", Piece::Number(u64::from(*node))),
+        Order::Restart(node) => (b"restart ", Piece::Number(u64::from(*node))),
+        Order::Pull(..) | Order::Compact(..) | Order::Level(..) => (b"", Piece::Text(b"")),
+    }
+}
+
+/// The words of what came of an order: a text, the partition that is refused, what is wrong with its disk, and where.
+#[tactic(auto, unfolding(crate::specs::Transcript::told_words))]
+fn told_pieces(told: &Told) -> (&'static [u8], Piece<'static>, &'static [u8], Piece<'static>)
+    ensures { result.0.now ++ (piece_text result.1 ++ (result.2.now ++ piece_text result.3)) ≡ told_words told.now }
+{
+    match told {
+        Told::Done => (b"ok", Piece::Text(b""), b"", Piece::Text(b"")),
+        Told::Already => (b"already", Piece::Text(b""), b"", Piece::Text(b"")),
+        Told::Refused(refusal) => {
+            let (what, place) = what_pieces(&refusal.what);
+            (
+                b"refused ",
+                Piece::Number(u64::from(refusal.partition)),
+                what,
+                place,
+            )
+        }
+        Told::Stuck(PullCause::Fault) => (b"stuck fault", Piece::Text(b""), b"", Piece::Text(b"")),
+        Told::Stuck(PullCause::Memory) => (
+            b"stuck memory",
+            Piece::Text(b""),
+            b"",
+            Piece::Text(b""),
+        ),
+        _ => (b"", Piece::Text(b""), b"", Piece::Text(b"")),
+    }
+}
+
+/// What is wrong with a disk, behind a space, and the number that it is said with.
+#[tactic(auto, unfolding(crate::specs::Transcript::what_words))]
+fn what_pieces(what: &What) -> (&'static [u8], Piece<'static>)
+    ensures { result.0.now ++ piece_text result.1 ≡ codes " " ++ what_words what.now }
+{
+    match what {
+        What::Damaged(place) => (b" damaged ", Piece::Number(*place)),
+        What::OtherShape => (b" othershape", Piece::Text(b"")),
+        What::OtherSize(size) => (b" othersize ", Piece::Number(*size)),
+    }
 }
 
 /// The words of an outcome: a text, and what stands behind it.

@@ -21,6 +21,7 @@ mod options;
 mod settings;
 
 pub use fault::WordsFault;
+pub use numerals::number_of;
 pub use settings::{Settings, read_words, words_laws};
 
 #[cfg(test)]

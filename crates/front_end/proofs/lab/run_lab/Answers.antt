@@ -1,4 +1,4 @@
-use Rattle.std.proofs.Common.{◌≡◌, ◌⊎◌, ap, subst, refl, inl, inr, Err}
+use Rattle.std.proofs.Common.{◌≡◌, ◌⊎◌, ◌++◌, ◌∷◌, [], ap, subst, refl, inl, inr, Err}
 use Rattle.run_words.specs.declared.settings.Settings.{Settings}
 use Rattle.outside.specs.Words.{started}
 use Rattle.front_end.specs.Run.{HasRun, IsUntouched, outside_of}
@@ -16,14 +16,16 @@ returns-in-Ok-clause-run g c = λ settings spells.
     let taken' = g.K.Sink.taken c.run_settings.new.output in
     let words = g.U.Random.ahead c.args.random.now in
     let words' = g.U.Random.ahead c.run_settings.new.random in
-    let ran = subst (λ (s : Settings). HasRun s.shape given given' status (outside_of left left' taken taken' (started g.U.Random.seeded s.ids words) words') ⊎ (status ≡ 5) × (given' ≡ given) × IsUntouched (outside_of left left' taken taken' words words')) (c.in-Ok.ensures.only settings spells) c.run_settings.ensures.run in
+    let seeds = g.M.Moves.seeds c.args.moves.now in
+    let seeds' = g.M.Moves.seeds c.run_settings.new.moves in
+    let ran = subst (λ (s : Settings). HasRun s.shape given given' status (outside_of left left' taken taken' (started g.U.Random.seeded s.ids words) words') × (seeds' ≡ seeds ++ s.seed ∷ []) ⊎ (status ≡ 5) × (given' ≡ given) × (seeds' ≡ seeds) × IsUntouched (outside_of left left' taken taken' words words')) (c.in-Ok.ensures.only settings spells) c.run_settings.ensures.run in
     elim ran [
       | inl r ↦ inl r
-      | inr r ↦ inr (inl r.0, r.1, r.2)
+      | inr r ↦ inr (inl r.0, r.1, r.2, r.3)
     ]
 
 pub returns-in-Err-Usage-clause-run : goal.returns-in-Err-Usage-clause-run
 returns-in-Err-Usage-clause-run g c = λ settings spells. absurd (c.in-Err-Usage.ensures.usage (ap Err c.in-Err-Usage.field-0-is) settings spells)
 
 pub returns-in-Err-Memory-clause-run : goal.returns-in-Err-Memory-clause-run
-returns-in-Err-Memory-clause-run g c = λ settings spells. inr (inr refl, refl, record { source = refl; sink = refl; random = refl })
+returns-in-Err-Memory-clause-run g c = λ settings spells. inr (inr refl, refl, refl, record { source = refl; sink = refl; random = refl })

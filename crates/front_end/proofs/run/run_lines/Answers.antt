@@ -1,5 +1,4 @@
 use Rattle.std.proofs.Common.{◌≡◌, ◌∙◌, ap, sym, arith, Err, refl}
-use Rattle.world_model.specs.declared.shape.Shape.{Shape}
 use Rattle.front_end.specs.declared.lines.Stop.TheVariants as stop
 use Rattle.front_end.specs.Running.{IsAll, IsSome}
 use Rattle.front_end.specs.Session.{ties_of}
@@ -11,7 +10,7 @@ use Rattle.front_end.proofs.run.run_lines.Goals as goal
 pub returns-in_err-line-clause-stopped : goal.returns-in_err-line-clause-stopped
 returns-in_err-line-clause-stopped g c = λ q.
     let i = c.lines.invariant in
-    let P = c.args.session.now.router.shape.partitions in
+    let P = c.args.session.now.router.shape in
     let gone = c.next_line.ensures.gone in
     let tie = ties_of c.lines.session.router (g.F.Fabric.told c.lines.fabric) in
     record { router = c.lines.session.router; shaped = i.shape; went = i.goes; run = i.run; so = stopped_between P _ _ _ _ _ _ _ gone.0 _ c.lines.session tie _ _ _ refl refl refl refl refl i.running gone.1 gone.2 (appends_nothing _) }
@@ -19,7 +18,7 @@ returns-in_err-line-clause-stopped g c = λ q.
 pub returns-in_err-line-clause-refused : goal.returns-in_err-line-clause-refused
 returns-in_err-line-clause-refused g c = λ q.
     let i = c.lines.invariant in
-    let P = c.args.session.now.router.shape.partitions in
+    let P = c.args.session.now.router.shape in
     let gone = c.next_line.ensures.gone in
     let tie = ties_of c.lines.session.router (g.F.Fabric.told c.lines.fabric) in
     (g.U.Random.ahead c.lines.random, record { between = c.lines.fabric; was = record { router = c.lines.session.router; shaped = i.shape; went = i.goes; run = i.run; so = stopped_between P _ _ _ _ _ _ _ gone.0 _ c.lines.session tie _ _ _ refl refl refl refl refl i.running gone.1 gone.2 (appends_nothing _) }; fell = g.met.F.Fabric.falls_as_it_goes _ _ (g.met.F.Fabric.goes_nowhere _) })
@@ -28,9 +27,9 @@ pub returns-in_err-more-in-Line-clause-cut : goal.returns-in_err-more-in-Line-cl
 returns-in_err-more-in-Line-clause-cut g c = λ q.
     let i = c.lines.invariant in
     let r = i.running in
-    let P = c.args.session.now.router.shape.partitions in
+    let P = c.args.session.now.router.shape in
     let e = sym (known_error _ stop.Sink c.in_err-more-in-Line.field-0.0 c.from_residual-in_err-more-in-Line.ensures q) in
-    let parts : c.lines.session.router.shape.partitions ≡ P = ap (λ (s : Shape). s.partitions) i.shape in
+    let parts : c.lines.session.router.shape ≡ P = i.shape in
     let tie = ties_of c.lines.session.router (g.F.Fabric.told c.lines.fabric) in
     let tie' = ties_of c.run_line.new.session.router (g.F.Fabric.told c.run_line.new.fabric) in
     let runs = runs_over _ P _ c.lines.session c.run_line.new.session tie tie' _ _ _ _ IsSome parts (c.in_err-more-in-Line.ensures.cut (ap Err e)) in
@@ -42,14 +41,14 @@ returns-in_err-more-in-Line-clause-cut g c = λ q.
       router = c.run_line.new.session.router;
       shaped = c.in_err-more-in-Line.ensures.shape ∙ i.shape;
       went = g.met.F.Fabric.goes_on _ _ _ i.goes (c.in_err-more-in-Line.ensures.cut_goes (ap Err e));
-      run = still_runs (record { told = g.F.Fabric.told; image = g.F.Fabric.image; goes = g.F.Fabric.goes; falls = g.F.Fabric.falls }) c.args.fabric.now c.lines.fabric c.run_line.new.fabric i.run c.in_err-more-in-Line.ensures.run;
+      run = still_runs (record { told = g.F.Fabric.told; runs = g.F.Fabric.runs; goes = g.F.Fabric.goes; falls = g.F.Fabric.falls }) c.args.fabric.now c.lines.fabric c.run_line.new.fabric i.run c.in_err-more-in-Line.ensures.run;
       so = cut_in_line P _ _ _ _ _ r.lines c.as_slice.result.now r.state c.run_line.new.session tie' _ _ _ refl refl refl refl refl refl r.unended r.wrote read ran;
     }
 
 pub returns-in_err-more-in-Line-clause-refused : goal.returns-in_err-more-in-Line-clause-refused
 returns-in_err-more-in-Line-clause-refused g c = λ q.
     let i = c.lines.invariant in
-    let P = c.args.session.now.router.shape.partitions in
+    let P = c.args.session.now.router.shape in
     let gone = c.next_line.ensures.gone in
     let tie = ties_of c.lines.session.router (g.F.Fabric.told c.lines.fabric) in
     let e = sym (known_error _ stop.Memory c.in_err-more-in-Line.field-0.0 c.from_residual-in_err-more-in-Line.ensures q) in
@@ -59,9 +58,9 @@ pub returns-in_err-run_line-in-Last-clause-cut : goal.returns-in_err-run_line-in
 returns-in_err-run_line-in-Last-clause-cut g c = λ q.
     let i = c.lines.invariant in
     let r = i.running in
-    let P = c.args.session.now.router.shape.partitions in
+    let P = c.args.session.now.router.shape in
     let e = sym (known_error _ stop.Sink c.in_err-run_line-in-Last.field-0.0 c.from_residual-in_err-run_line-in-Last.ensures q) in
-    let parts : c.lines.session.router.shape.partitions ≡ P = ap (λ (s : Shape). s.partitions) i.shape in
+    let parts : c.lines.session.router.shape ≡ P = i.shape in
     let tie = ties_of c.lines.session.router (g.F.Fabric.told c.lines.fabric) in
     let tie' = ties_of c.run_line-in-Last.new.session.router (g.F.Fabric.told c.run_line-in-Last.new.fabric) in
     let runs = runs_over _ P _ c.lines.session c.run_line-in-Last.new.session tie tie' _ _ _ _ IsSome parts (c.in_err-run_line-in-Last.ensures.cut (ap Err e)) in
@@ -73,14 +72,14 @@ returns-in_err-run_line-in-Last-clause-cut g c = λ q.
       router = c.run_line-in-Last.new.session.router;
       shaped = c.in_err-run_line-in-Last.ensures.shape ∙ i.shape;
       went = g.met.F.Fabric.goes_on _ _ _ i.goes (c.in_err-run_line-in-Last.ensures.cut_goes (ap Err e));
-      run = still_runs (record { told = g.F.Fabric.told; image = g.F.Fabric.image; goes = g.F.Fabric.goes; falls = g.F.Fabric.falls }) c.args.fabric.now c.lines.fabric c.run_line-in-Last.new.fabric i.run c.in_err-run_line-in-Last.ensures.run;
+      run = still_runs (record { told = g.F.Fabric.told; runs = g.F.Fabric.runs; goes = g.F.Fabric.goes; falls = g.F.Fabric.falls }) c.args.fabric.now c.lines.fabric c.run_line-in-Last.new.fabric i.run c.in_err-run_line-in-Last.ensures.run;
       so = cut_in_line P _ _ _ _ _ r.lines c.as_slice-in-Last.result.now r.state c.run_line-in-Last.new.session tie' _ _ _ refl refl refl refl refl refl r.unended r.wrote read ran;
     }
 
 pub returns-in_err-run_line-in-Last-clause-refused : goal.returns-in_err-run_line-in-Last-clause-refused
 returns-in_err-run_line-in-Last-clause-refused g c = λ q.
     let i = c.lines.invariant in
-    let P = c.args.session.now.router.shape.partitions in
+    let P = c.args.session.now.router.shape in
     let gone = c.next_line.ensures.gone in
     let tie = ties_of c.lines.session.router (g.F.Fabric.told c.lines.fabric) in
     let e = sym (known_error _ stop.Memory c.in_err-run_line-in-Last.field-0.0 c.from_residual-in_err-run_line-in-Last.ensures q) in
@@ -92,8 +91,8 @@ returns-in_err-more-in-Line-clause-falls g c = g.met.F.Fabric.falls_on _ _ _ (g.
 pub returns-then-not-more-clause-ran : goal.returns-then-not-more-clause-ran
 returns-then-not-more-clause-ran g c =
     let r = c.lines.invariant.running in
-    let P = c.args.session.now.router.shape.partitions in
-    let parts : c.lines.session.router.shape.partitions ≡ P = ap (λ (s : Shape). s.partitions) c.lines.invariant.shape in
+    let P = c.args.session.now.router.shape in
+    let parts : c.lines.session.router.shape ≡ P = c.lines.invariant.shape in
     let tie = ties_of c.lines.session.router (g.F.Fabric.told c.lines.fabric) in
     let tie' = ties_of c.run_line.new.session.router (g.F.Fabric.told c.run_line.new.fabric) in
     let runs = runs_over _ P _ c.lines.session c.run_line.new.session tie tie' _ _ _ _ IsAll parts c.in_ok-more-in-Line.ensures.carried in
@@ -112,8 +111,8 @@ returns-then-not-more-clause-falls g c = g.met.F.Fabric.falls_as_it_goes _ _ (g.
 pub lines-preserved : goal.lines-preserved
 lines-preserved g c =
     let i = c.lines.invariant in
-    let P = c.args.session.now.router.shape.partitions in
-    let parts : c.lines.session.router.shape.partitions ≡ P = ap (λ (s : Shape). s.partitions) c.lines.invariant.shape in
+    let P = c.args.session.now.router.shape in
+    let parts : c.lines.session.router.shape ≡ P = c.lines.invariant.shape in
     let tie = ties_of c.lines.session.router (g.F.Fabric.told c.lines.fabric) in
     let tie' = ties_of c.run_line.new.session.router (g.F.Fabric.told c.run_line.new.fabric) in
     let runs = runs_over _ P _ c.lines.session c.run_line.new.session tie tie' _ _ _ _ IsAll parts c.in_ok-more-in-Line.ensures.carried in
@@ -128,7 +127,7 @@ lines-preserved g c =
           (next.0, next.1, c.as_slice.ensures ∙ next.2, next.3) l.read runs e.lines more;
       shape = e.shape ∙ i.shape;
       opened = e.opened ∙ i.opened;
-      run = still_runs (record { told = g.F.Fabric.told; image = g.F.Fabric.image; goes = g.F.Fabric.goes; falls = g.F.Fabric.falls }) c.args.fabric.now c.lines.fabric c.run_line.new.fabric i.run e.run;
+      run = still_runs (record { told = g.F.Fabric.told; runs = g.F.Fabric.runs; goes = g.F.Fabric.goes; falls = g.F.Fabric.falls }) c.args.fabric.now c.lines.fabric c.run_line.new.fabric i.run e.run;
       goes = g.met.F.Fabric.goes_on _ _ _ i.goes e.goes;
       turns = omega (arith, i.turns, used, e.lines);
       limit = small;
@@ -141,8 +140,8 @@ lines-preserved g c =
 pub returns-in-Last-clause-ran : goal.returns-in-Last-clause-ran
 returns-in-Last-clause-ran g c =
     let r = c.lines.invariant.running in
-    let P = c.args.session.now.router.shape.partitions in
-    let parts : c.lines.session.router.shape.partitions ≡ P = ap (λ (s : Shape). s.partitions) c.lines.invariant.shape in
+    let P = c.args.session.now.router.shape in
+    let parts : c.lines.session.router.shape ≡ P = c.lines.invariant.shape in
     let tie = ties_of c.lines.session.router (g.F.Fabric.told c.lines.fabric) in
     let tie' = ties_of c.run_line-in-Last.new.session.router (g.F.Fabric.told c.run_line-in-Last.new.fabric) in
     let runs = runs_over _ P _ c.lines.session c.run_line-in-Last.new.session tie tie' _ _ _ _ IsAll parts c.in_ok-run_line-in-Last.ensures.carried in

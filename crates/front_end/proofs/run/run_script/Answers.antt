@@ -1,5 +1,4 @@
 use Rattle.std.proofs.Common.{◌≡◌, ◌⊎◌, ◌∙◌, ap, sym, subst, Err, refl}
-use Rattle.world_model.specs.declared.shape.Shape.{Shape}
 use Rattle.front_end.specs.declared.lines.Stop.TheVariants as stop
 use Rattle.front_end.specs.Running.{Telling}
 use Rattle.front_end.specs.Session.{ties_of}
@@ -13,18 +12,18 @@ run_lines-requires-clause-fresh g c = new_running _ _ _ c.new-session.result _ _
 
 pub returns-in_err-ending-clause-stopped : goal.returns-in_err-ending-clause-stopped
 returns-in_err-ending-clause-stopped g c = λ q.
-    on_map _ _ _ _ _ _ _ c.new-session.ensures.shape (λ tie h. stopped_over _ _ tie _ _ (ap (λ (s : Shape). s.partitions) c.new-session.ensures.shape) h)
+    on_map _ _ _ _ _ _ _ c.new-session.ensures.shape (λ tie h. stopped_over _ _ tie _ _ c.new-session.ensures.shape h)
     (c.in_err-ending.ensures.stopped (ap Err (sym (known_error _ stop.Source c.in_err-ending.field-0.0 c.from_residual.ensures q))))
 
 pub returns-in_err-ending-clause-cut : goal.returns-in_err-ending-clause-cut
 returns-in_err-ending-clause-cut g c = λ q.
-    on_map _ _ _ _ _ _ _ c.new-session.ensures.shape (λ tie h. cut_over _ _ tie _ (ap (λ (s : Shape). s.partitions) c.new-session.ensures.shape) h)
+    on_map _ _ _ _ _ _ _ c.new-session.ensures.shape (λ tie h. cut_over _ _ tie _ c.new-session.ensures.shape h)
     (c.in_err-ending.ensures.cut (ap Err (sym (known_error _ stop.Sink c.in_err-ending.field-0.0 c.from_residual.ensures q))))
 
 pub returns-in_err-ending-clause-refused : goal.returns-in_err-ending-clause-refused
 returns-in_err-ending-clause-refused g c = λ q.
     let was = c.in_err-ending.ensures.refused (ap Err (sym (known_error _ stop.Memory c.in_err-ending.field-0.0 c.from_residual.ensures q))) in
-    (was.0, was_map _ _ _ _ _ _ _ c.new-session.ensures.shape (λ tie h. stopped_over _ _ tie _ was.0 (ap (λ (s : Shape). s.partitions) c.new-session.ensures.shape) h) was.1)
+    (was.0, was_map _ _ _ _ _ _ _ c.new-session.ensures.shape (λ tie h. stopped_over _ _ tie _ was.0 c.new-session.ensures.shape h) was.1)
 
 pub returns-in_err-finish-clause-stopped : goal.returns-in_err-finish-clause-stopped
 returns-in_err-finish-clause-stopped g c = λ q. absurd (c.in_err-finish.ensures.source (sym (known_error _ stop.Source c.in_err-finish.field-0.0 c.from_residual-in_err-finish.ensures q)))
@@ -32,11 +31,11 @@ returns-in_err-finish-clause-stopped g c = λ q. absurd (c.in_err-finish.ensures
 pub returns-in_err-finish-clause-cut : goal.returns-in_err-finish-clause-cut
 returns-in_err-finish-clause-cut g c = λ q.
     let e = sym (known_error _ stop.Sink c.in_err-finish.field-0.0 c.from_residual-in_err-finish.ensures q) in
-    let T : Telling _ = record { told = g.F.Fabric.told; image = g.F.Fabric.image; goes = g.F.Fabric.goes; falls = g.F.Fabric.falls } in
-    let P = c.new-session.result.router.shape.partitions in
+    let T : Telling _ = record { told = g.F.Fabric.told; runs = g.F.Fabric.runs; goes = g.F.Fabric.goes; falls = g.F.Fabric.falls } in
+    let P = c.new-session.result.router.shape in
     let tie = ties_of c.run_lines.new.session.router (g.F.Fabric.told c.run_lines.new.fabric) in
     let tie' = ties_of c.finish.new.session.router (g.F.Fabric.told c.finish.new.fabric) in
-    let parts : P ≡ c.args.shape.now.partitions = ap (λ (s : Shape). s.partitions) c.new-session.ensures.shape in
+    let parts : P ≡ c.args.shape.now = c.new-session.ensures.shape in
     let cut = end_cut P _ _ _ _ _ c.run_lines.new.session c.finish.new.session tie tie' _ _ c.in_ok-ending.ending _ refl refl refl refl refl refl c.in_ok-ending.ensures.ran (c.in_err-finish.ensures.cut (ap Err e)) in
     record {
       router = c.finish.new.session.router;
@@ -49,9 +48,9 @@ returns-in_err-finish-clause-cut g c = λ q.
 pub returns-in_err-finish-clause-refused : goal.returns-in_err-finish-clause-refused
 returns-in_err-finish-clause-refused g c = λ q.
     let e = sym (known_error _ stop.Memory c.in_err-finish.field-0.0 c.from_residual-in_err-finish.ensures q) in
-    let P = c.new-session.result.router.shape.partitions in
+    let P = c.new-session.result.router.shape in
     let tie = ties_of c.run_lines.new.session.router (g.F.Fabric.told c.run_lines.new.fabric) in
-    let parts : P ≡ c.args.shape.now.partitions = ap (λ (s : Shape). s.partitions) c.new-session.ensures.shape in
+    let parts : P ≡ c.args.shape.now = c.new-session.ensures.shape in
     let stopped = end_stopped P _ _ _ _ _ c.run_lines.new.session tie _ _ c.in_ok-ending.ending _ refl refl refl refl refl c.in_ok-ending.ensures.ran (c.in_err-finish.ensures.memory (ap Err e)) in (
       g.U.Random.ahead c.run_lines.new.random,
       record {
@@ -69,11 +68,11 @@ returns-in_err-finish-clause-refused g c = λ q.
 
 pub returns-clause-finished : goal.returns-clause-finished
 returns-clause-finished g c =
-    let T : Telling _ = record { told = g.F.Fabric.told; image = g.F.Fabric.image; goes = g.F.Fabric.goes; falls = g.F.Fabric.falls } in
-    let P = c.new-session.result.router.shape.partitions in
+    let T : Telling _ = record { told = g.F.Fabric.told; runs = g.F.Fabric.runs; goes = g.F.Fabric.goes; falls = g.F.Fabric.falls } in
+    let P = c.new-session.result.router.shape in
     let tie = ties_of c.run_lines.new.session.router (g.F.Fabric.told c.run_lines.new.fabric) in
     let tie' = ties_of c.finish.new.session.router (g.F.Fabric.told c.finish.new.fabric) in
-    let parts : P ≡ c.args.shape.now.partitions = ap (λ (s : Shape). s.partitions) c.new-session.ensures.shape in
+    let parts : P ≡ c.args.shape.now = c.new-session.ensures.shape in
     let finished = run_finished P _ _ _ _ _ c.run_lines.new.session c.finish.new.session tie tie' _ _ c.in_ok-ending.ending _ refl refl refl refl refl refl c.in_ok-ending.ensures.ran c.in_ok-finish.ensures.ok in
     record {
       router = c.finish.new.session.router;

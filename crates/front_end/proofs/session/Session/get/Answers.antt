@@ -17,7 +17,7 @@ pub returns-clause-carried : goal.returns-clause-carried
 returns-clause-carried g c = λ line words asks lines state first k stands number.
     let self = c.args.self.now in
     let out = c.args.out.now.items in
-    let P = self.router.shape.partitions in
+    let shape = self.router.shape in
     let t : Tag = record { name = c.args.name; is_put = false } in
     let tie = ties_of self.router (g.F.Fabric.told c.args.fabric.now) in
     let tie1 = ties_of c.finish.new.self.router (g.F.Fabric.told c.finish.new.fabric) in
@@ -29,7 +29,7 @@ returns-clause-carried g c = λ line words asks lines state first k stands numbe
     let n = length state.tags + 1 in
     let asks' : command_of state.tags line ≡ Some (command.Get c.args.name c.args.of) = ap (λ (x : List Tag). command_of x line) (sym k.tags) ∙ asks in
     let named : id ≡ meant_by state.tags (entries_of s1) c.args.of = subst (λ (x : List Tag). id ≡ meant_by x (entries_of s1) c.args.of) (finish_tags state f.outcome) (c.meant-id.ensures.meant s1 h.keeps) in
-    let whole = begin_whole P lines line state tie tie1 first words f.outcome t r (command.Get c.args.name c.args.of) out stands h.ends k.some h.ties asks' (λ known. refl) (λ known. refl) (c.args.name, c.args.of, refl, refl, named, refl, refl) in
+    let whole = begin_whole shape lines line state tie tie1 first words f.outcome t r (command.Get c.args.name c.args.of) out stands h.ends k.some h.ties asks' (λ known. refl) (λ known. refl) (c.args.name, c.args.of, refl, refl, named, refl, refl) in
     let coded : Begun = c.begun_get-begun.result in
     let none : get_of id ≡ coded = sym c.begun_get-begun.ensures in
     let k2 : Keeps c.begin.new.self (begun_by s1 t r) = c.in_ok-_number.ensures.state s1 r h.keeps none in
@@ -40,7 +40,7 @@ returns-clause-carried g c = λ line words asks lines state first k stands numbe
     begun_told c.begin.new.out.items c.finish.new.out.items out c.finish.new.self.tags state.tags (ending_of state.tags f.outcome) t coded r tags c.in_ok-_number.ensures.told h.told in
     let same : c.begin.new.self.router ≡ c.finish.new.self.router = c.in_ok-_number.ensures.router in
     let now = g.F.Fabric.told c.finish.new.fabric in
-    let going = subst (λ (x : RouterView). IsGoing P (lines ++ line ∷ []) (begun_by s1 t r) (ties_of x now) first words n r []) (sym same) whole.0 in
+    let going = subst (λ (x : RouterView). IsGoing shape (lines ++ line ∷ []) (begun_by s1 t r) (ties_of x now) first words n r []) (sym same) whole.0 in
     let m = length c.begin.new.self.tags in
     let e = c.in_ok-get.ensures in
     let begun : c.begin.new.self.router.begun + 1 ≡ m =
@@ -63,5 +63,5 @@ returns-clause-carried g c = λ line words asks lines state first k stands numbe
       same_words = refl;
       same_out = refl;
     } in
-    starts_on P line lines state (begun_by s1 t r) c.begin.new.self new (ties_of c.begin.new.self.router now) tie' first words words n r out c.begin.new.out.items c.begin.new.out.items
+    starts_on shape line lines state (begun_by s1 t r) c.begin.new.self new (ties_of c.begin.new.self.router now) tie' first words words n r out c.begin.new.out.items c.begin.new.out.items
     k2 counted going (subst (λ (x : List ℕ). Adds out x state (begun_by s1 t r)) (sym told) whole.1) starts

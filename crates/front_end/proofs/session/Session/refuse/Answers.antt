@@ -1,22 +1,27 @@
-use Rattle.std.proofs.Common.{◌∙◌, ◌++◌, ◌∷◌, [], ℕ, ap, refl, length}
-use Rattle.router_core.specs.Stands.{is_idle}
+use Rattle.std.proofs.Common.{ℕ, refl, subst, true}
 use Rattle.front_end.specs.declared.history.Entry.TheVariants.{Bad}
-use Rattle.front_end.specs.Session.{answer_at}
-use Rattle.front_end.proofs.KeepLemmas.{settled_outline, answers_own}
+use Rattle.front_end.specs.Session.{Keeps, settled_by}
+use Rattle.front_end.proofs.KeepLemmas.{on_ok_map}
 use Rattle.front_end.proofs.session.Session.refuse.Goals as goal
 
+pub add-requires-clause-plain : goal.add-requires-clause-plain
+add-requires-clause-plain c = record { outlined = refl; silent = λ before n. refl }
+
 pub returns-clause-state : goal.returns-clause-state
-returns-clause-state c = λ state k.
+returns-clause-state c =
     let self = c.args.self.now in
-    let e = c.in_ok-settle.ensures in
-    record {
-      tags = e.tags ∙ k.tags;
-      busy = ap (λ r. is_idle r.stage) e.router ∙ k.busy;
+    on_ok_map c.add.result
+    (λ becomes. λ state k.
+    let bad : Keeps (record self { bad = true }) (record state { bad = true }) = record {
+      tags = k.tags;
+      busy = k.busy;
       some = k.some;
-      lines = e.lines ∙ k.lines;
-      bad = e.bad;
-      settled = e.settled ∙ ap (λ (n : ℕ). (self.settled ++ self.later) ++ Bad n ∷ []) k.lines ∙ settled_outline state.settled state.later self.settled self.later (Bad state.lines) k.settled k.later;
-      later = e.later;
-      count = ap (λ a. length a.items) e.answers ∙ k.count;
-      answers = λ n pos. ap (λ a. answer_at a.items n) e.answers ∙ k.answers n pos ∙ answers_own state (Bad state.lines) n refl;
-    }
+      lines = k.lines;
+      bad = refl;
+      settled = k.settled;
+      later = k.later;
+      count = k.count;
+      answers = k.answers;
+    } in
+    subst (λ (n : ℕ). Keeps c.add.new.self (settled_by (record state { bad = true }) (Bad n))) k.lines (becomes (record state { bad = true }) bad))
+    c.add.ensures.state

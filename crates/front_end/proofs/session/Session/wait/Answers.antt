@@ -22,7 +22,7 @@ returns-clause-carried g c = λ line words asks lines state first k stands numbe
     let tie' = ties_of c.finish.new.self.router (g.F.Fabric.told c.finish.new.fabric) in
     let f = c.in_ok-finish.ensures.finished in
     let h = finishes_state (record self { settled = c.push.new.self }) c.finish.new.self (waited_by state) tie tie' out c.finish.new.out.items f kept in
-    let done = wait_whole self.router.shape.partitions lines line state tie tie' first words f.outcome out asks' h.ends k.some h.ties stands in
+    let done = wait_whole self.router.shape lines line state tie tie' first words f.outcome out asks' h.ends k.some h.ties stands in
     record {
       state = finished_by (waited_by state) f.outcome;
       keeps = h.keeps;
