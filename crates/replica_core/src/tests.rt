@@ -310,6 +310,113 @@ fn full_comes_where_no_segment_has_room(rt: HostRuntime) -> Result<(), Fail> {
     assert_kept(&rt, rt.alloc(), &FILLED, &FOUND, 3)
 }
 
+/// Lists of asks of new replicas, each with the segments of its disk. Of each list the records are laid one behind the other: a put's
+/// has 45 bytes beside its body, and a delete's 38. A record goes into the last segment where one byte is left behind it, else
+/// into a new one; full is one that no segment can take, and one that needs a new segment where all but one are in use.
+const PACKED: [(u16, &[(Step, Answer)]); 10] = [
+    (
+        2,
+        &[
+            (Step::Put(1, 4050), Answer::Stored),
+            (Step::Put(2, 0), Answer::Full),
+            (Step::Put(1, 4050), Answer::There),
+            (Step::Put(1, 1), Answer::Clash),
+        ],
+    ),
+    (
+        2,
+        &[
+            (Step::Put(1, 4051), Answer::Full),
+            (Step::Put(1, 4050), Answer::Stored),
+        ],
+    ),
+    (
+        2,
+        &[
+            (Step::Put(1, 2000), Answer::Stored),
+            (Step::Put(2, 2000), Answer::Stored),
+            (Step::Put(3, 0), Answer::Full),
+        ],
+    ),
+    (
+        3,
+        &[
+            (Step::Put(1, 4050), Answer::Stored),
+            (Step::Put(2, 4050), Answer::Stored),
+            (Step::Put(3, 4050), Answer::Full),
+            (Step::Put(3, 0), Answer::Full),
+        ],
+    ),
+    (
+        3,
+        &[
+            (Step::Put(1, 2050), Answer::Stored),
+            (Step::Put(2, 2050), Answer::Stored),
+            (Step::Put(3, 1956), Answer::Full),
+            (Step::Put(3, 1955), Answer::Stored),
+            (Step::Put(4, 0), Answer::Full),
+        ],
+    ),
+    (
+        3,
+        &[
+            (Step::Put(1, 3000), Answer::Stored),
+            (Step::Put(2, 2000), Answer::Stored),
+            (Step::Put(3, 900), Answer::Stored),
+            (Step::Put(4, 1060), Answer::Stored),
+            (Step::Put(5, 0), Answer::Full),
+        ],
+    ),
+    (
+        2,
+        &[
+            (Step::Put(1, 4050), Answer::Stored),
+            (Step::Delete(1), Answer::Full),
+            (Step::Get(1), Answer::Blob(4050)),
+        ],
+    ),
+    (
+        2,
+        &[
+            (Step::Put(1, 4012), Answer::Stored),
+            (Step::Delete(1), Answer::Done),
+            (Step::Delete(2), Answer::Full),
+            (Step::Delete(1), Answer::Done),
+            (Step::Put(1, 4012), Answer::Gone),
+        ],
+    ),
+    (
+        4,
+        &[
+            (Step::MergeBlob(1, 4050), Answer::Done),
+            (Step::MergeGone(2), Answer::Done),
+            (Step::MergeBlob(3, 4013), Answer::Done),
+            (Step::MergeGone(1), Answer::Full),
+            (Step::MergeBlob(1, 9), Answer::Done),
+            (Step::MergeAbsent(4), Answer::Done),
+        ],
+    ),
+    (
+        2,
+        &[
+            (Step::Put(1, 1000), Answer::Stored),
+            (Step::Put(2, 4060), Answer::Full),
+            (Step::Put(2, 3005), Answer::Stored),
+            (Step::Put(3, 0), Answer::Full),
+        ],
+    ),
+];
+
+#[test]
+fn records_are_packed_into_segments(rt: HostRuntime) -> Result<(), Fail> {
+    for (segments, steps) in &PACKED {
+        let disk = new_disk(rt.alloc(), *segments, Pick::Drop)?;
+        let mut replica = open(&rt, rt.alloc(), disk, *segments);
+        assert_steps(&rt, rt.alloc(), &mut replica, steps)?;
+    }
+    Ok(())
+}
+
 /// An ask through the port.
 fn asked<P: ReplicaPort>(port: &mut P, ask: Ask) -> Answer
     requires ready { P.ready port.old }
