@@ -1,0 +1,17 @@
+use Rattle.std.proofs.Common.{true, sym, subst}
+use Rattle.lab_nodes.specs.Holding.{AllStandEither}
+use Rattle.lab_nodes.proofs.Holding.{left_stands, open_stands}
+use Rattle.lab_nodes.proofs.opening.close_replica.Goals as goal
+
+pub returns-then-stops-clause-stands : goal.returns-then-stops-clause-stands
+returns-then-stops-clause-stands g c = λ t settings cells doubt holds.
+    let disk = c.close-disk.result in
+    left_stands g.D.Disk.content settings true disk c.stopped.new.self cells doubt (c.stopped.ensures.told t)
+    (subst (λ (d : g.row.D.Denot). AllStandEither settings (g.D.Disk.content d) cells doubt) (sym c.close-disk.ensures.disk)
+    (open_stands g.D.Disk.content settings c.args.replica cells doubt disk c.close-disk.ensures.disk (c.close-disk.ensures.stands t) holds))
+
+pub returns-else-stops-clause-stands : goal.returns-else-stops-clause-stands
+returns-else-stops-clause-stands g c = λ t settings cells doubt holds.
+    let disk = c.close-disk.result in
+    subst (λ (d : g.row.D.Denot). AllStandEither settings (g.D.Disk.content d) cells doubt) (sym c.close-disk.ensures.disk)
+    (open_stands g.D.Disk.content settings c.args.replica cells doubt disk c.close-disk.ensures.disk (c.close-disk.ensures.stands t) holds)

@@ -1,0 +1,4 @@
+pub mod Holding
+pub mod Faults
+pub mod Spots
+pub mod Starting
