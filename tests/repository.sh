@@ -1,7 +1,7 @@
 #!/usr/bin/env bash
 # The repository's own checks, behind the gate. Each example gives the transcript and the status that stand beside it, under the words that stand
-# beside it, or else over one node. A script of 100 lines of puts, gets and deletes over three replicas ends well under each of 100 schedules, twice with
-# the same transcript: what is got is what was put, and nothing is got behind the ok of its delete.
+# beside it, or else over one node. A script of 140 lines of puts, gets and deletes, and of stops and restarts of one node after the other, over three
+# replicas ends well under each of 100 schedules, twice with the same transcript: what is got is what was put, and nothing is got behind the ok of its delete.
 # The program is run here without its proofs, which the gate has just made.
 set -u
 cd "$(dirname "$0")/.." || exit 1
@@ -41,7 +41,8 @@ done
 echo "examples: $(ls examples/*.script | wc -l), and $failed not as they stand"
 
 for n in $(seq 1 20); do
-  printf 'put a%d hex %04x\nwait\nget b%d $a%d\ndel d%d $a%d\nget c%d $a%d\n' "$n" "$n" "$n" "$n" "$n" "$n" "$n" "$n"
+  node=$((n % 3 + 1))
+  printf 'put a%d hex %04x\nstop %d\nwait\nget b%d $a%d\nrestart %d\ndel d%d $a%d\nget c%d $a%d\n' "$n" "$n" "$node" "$n" "$n" "$node" "$n" "$n" "$n" "$n"
   printf 'b%d ok 2 %04x\nc%d ok 2 %04x\n' "$n" "$n" "$n" "$n" >> "$work/right"
 done > "$work/script"
 for seed in $(seq 1 100); do
