@@ -64,6 +64,9 @@ pub trait Bays {
         ensures faults { faults self.new ≡ faults self.old }
         ensures same { same self.old self.new };
 
+    /// Disks that tell what they hold are kept in bays that tell what they keep.
+    ghost known: { Self.Disk.tells → tells };
+
     ghost same_self: { (bays : Self) → same bays bays };
 
     ghost same_on: { (a b c : Self) → same a b → same b c → same a c };
@@ -98,6 +101,8 @@ impl<B: Bays> Bays for &mut B {
     fn give_back(&mut self, node: u32, partition: u32, disk: B::Disk) {
         (**self).give_back(node, partition, disk);
     }
+
+    ghost known = { B.known };
 
     ghost same_self = { λ a. refl };
 

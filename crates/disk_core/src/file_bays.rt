@@ -151,6 +151,8 @@ impl<R: Files<File = File> + Drop> Bays for FileBays<R> {
         drop(disk);
     }
 
+    ghost known = { λ t. t };
+
     ghost same_self = { λ a. tt };
 
     ghost same_on = { λ a b c p q. tt };

@@ -101,6 +101,8 @@ impl Bays for FuseBays {
         self.bays.give_back(node, partition, disk.into_inner());
     }
 
+    ghost known = { λ t. t };
+
     ghost same_self = { λ a. tt };
 
     ghost same_on = { λ a b c p q. tt };

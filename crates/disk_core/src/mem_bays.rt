@@ -161,6 +161,8 @@ impl Bays for MemBays {
         place.disk = Some(disk);
     }
 
+    ghost known = { λ t. t };
+
     ghost same_self = { λ a. tt };
 
     ghost same_on = { λ a b c p q. tt };
