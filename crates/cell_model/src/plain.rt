@@ -8,6 +8,7 @@ use crate::ask::{Ask, Reply};
 use crate::cell::Cell;
 use crate::port::ReplicaPort;
 use blob_id::{Blob, BlobId};
+use find_token::{Entries, FindToken, Page};
 use std::alloc::Global;
 use std::collections::BTreeMap;
 
@@ -20,7 +21,8 @@ pub struct PlainReplica {
 
 impl PlainReplica {
     ghost use Rattle.cell_model.specs.Cells.{cell_in, HoldsBlob};
-    ghost use Rattle.cell_model.specs.Plain.{plain_told, AllHoldBlobs};
+    ghost use Rattle.cell_model.specs.Asks.{AsksInRange};
+    ghost use Rattle.cell_model.specs.Plain.{plain_told, AllHoldBlobs, PlainAnswers};
 
     /// A replica that holds nothing.
     pub fn new(alloc: Global) -> Self
@@ -126,6 +128,20 @@ impl PlainReplica {
             Reply::Memory
         }
     }
+
+    /// It has no log, and so nothing that a peer hasn't seen.
+    fn find(&self, token: FindToken, max: u32) -> Reply
+        requires { AsksInRange (Ask.Find token max) }
+        ensures step { IsStep (plain_told self.now) (Ask.Find token max) result (plain_told self.now) }
+        ensures calm { Refuses result → ⊥ }
+        ensures range { AnswersInRange result }
+        ensures plain { PlainAnswers (Ask.Find token max) result }
+    {
+        Reply::Page(Page {
+            entries: Entries::new(self.alloc),
+            next: token,
+        })
+    }
 }
 
 fn is_same(one: &Blob, other: &Blob) -> bool
@@ -139,7 +155,8 @@ fn is_same(one: &Blob, other: &Blob) -> bool
 
 impl ReplicaPort for PlainReplica {
     ghost use Rattle.std.specs.Prelude.{false};
-    ghost use Rattle.cell_model.specs.Plain.{plain_told, AllHoldBlobs};
+    ghost use Rattle.cell_model.specs.Asks.{AsksInRange, CanAnswer};
+    ghost use Rattle.cell_model.specs.Plain.{plain_told, AllHoldBlobs, PlainAnswers};
 
     ghost tells = { Unit {0} };
 
@@ -151,13 +168,29 @@ impl ReplicaPort for PlainReplica {
 
     ghost ready = { AllHoldBlobs };
 
-    fn ask(&mut self, ask: Ask) -> Reply {
+    fn ask(&mut self, ask: Ask) -> Reply
+        requires ready { AllHoldBlobs self.old }
+        requires range { AsksInRange ask }
+        ensures kind { CanAnswer ask result }
+        ensures step { IsStep (plain_told self.old) ask result (plain_told self.new) }
+        ensures range { AnswersInRange result }
+        ensures ready { AllHoldBlobs self.new }
+        ensures willing { Refuses result → ⊥ }
+        // What the port doesn't say: that there is no log.
+        ensures plain { PlainAnswers ask result }
+    {
         match ask {
             Ask::Put { id, blob } => self.put(id, blob),
             Ask::Get { id } => self.get(&id),
             Ask::Peek { id } => self.peek(&id),
             Ask::Delete { id, at } => self.delete(id, at),
             Ask::Merge { id, cell } => self.merge(id, cell),
+            Ask::Find { token, max } => self.find(token, max),
+            Ask::End => Reply::End(0),
+            Ask::Token { peer: _ } => Reply::Token(FindToken::Start),
+            Ask::SaveToken { peer: _, token: _ } => Reply::Done,
+            Ask::CompactBegin => Reply::Nothing,
+            Ask::CompactStep { records: _ } | Ask::CompactCommit => Reply::NoPlan,
         }
     }
 }

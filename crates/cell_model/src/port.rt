@@ -2,7 +2,8 @@
 
 ghost use Rattle.std.specs.Prelude.{ℕ, ◌≡◌, ◌≢◌, ◌≤◌, Bool, true};
 ghost use Rattle.outside.specs.Causes.{Rose};
-ghost use Rattle.cell_model.specs.Asks.{Told, IsStep, CanAnswer, Refuses, AsksInRange, AnswersInRange};
+ghost use Rattle.cell_model.specs.Told.{Told};
+ghost use Rattle.cell_model.specs.Asks.{IsStep, CanAnswer, Refuses, AsksInRange, AnswersInRange};
 
 use crate::ask::{Ask, Reply};
 
