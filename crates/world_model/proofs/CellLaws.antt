@@ -92,6 +92,13 @@ refuses (Ask.Peek id) _ r = absurd r
 refuses (Ask.Put id b) _ r = absurd r
 refuses (Ask.Delete id at) _ r = absurd r
 refuses (Ask.Merge id c) _ r = absurd r
+refuses (Ask.Find token max) _ r = absurd r
+refuses Ask.End _ r = absurd r
+refuses (Ask.Token peer) _ r = absurd r
+refuses (Ask.SaveToken peer token) _ r = absurd r
+refuses Ask.CompactBegin _ r = absurd r
+refuses (Ask.CompactStep records) _ r = absurd r
+refuses Ask.CompactCommit _ r = absurd r
 
 pub answers_from : (d : Option Change) (c : Cell) (ask : Ask) (reply : Reply) → MayReply d c ask reply → is_refusal reply ≡ false → Answers c ask reply
 answers_from (Some d) c ask reply h k = absurd (let e : is_refusal Reply.Down ≡ false = subst (λ r. is_refusal r ≡ false) h k in cc)

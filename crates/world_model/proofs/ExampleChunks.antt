@@ -267,11 +267,11 @@ run7 = (run6, inl refl)
 
 run8 : Run nothing s8
 unfolding frame_among frame_at whole_body_at body_at put_at delete_at own_id_at answer_at reply_at id_at blob_at front_at sized_at metadata_of nothing
-run8 = (run7, (record { node = 1; partition = 0; ask = Ask.Put first_id first }, record { sent = refl; running = refl; says = inl refl }))
+run8 = (run7, (record { node = 1; partition = 0; ask = Ask.Put first_id first }, record { sent = refl; running = refl; says = inl refl; pages = tt }))
 
 run9 : Run nothing s9
 unfolding frame_among frame_at whole_body_at body_at put_at delete_at own_id_at answer_at reply_at id_at blob_at front_at sized_at metadata_of nothing
-run9 = (run8, (record { node = 1; partition = 0; ask = Ask.Put second_id second }, record { sent = refl; running = refl; says = inl refl }))
+run9 = (run8, (record { node = 1; partition = 0; ask = Ask.Put second_id second }, record { sent = refl; running = refl; says = inl refl; pages = tt }))
 
 run10 : Run nothing s10
 unfolding frame_among frame_at whole_body_at body_at put_at delete_at own_id_at answer_at reply_at id_at blob_at front_at sized_at metadata_of nothing
@@ -303,7 +303,7 @@ run16 = (run15, inl refl)
 
 run17 : Run nothing s17
 unfolding frame_among frame_at whole_body_at body_at put_at delete_at own_id_at answer_at reply_at id_at blob_at front_at sized_at metadata_of nothing
-run17 = (run16, (record { node = 1; partition = 0; ask = Ask.Put top_id top }, record { sent = refl; running = refl; says = inl refl }))
+run17 = (run16, (record { node = 1; partition = 0; ask = Ask.Put top_id top }, record { sent = refl; running = refl; says = inl refl; pages = tt }))
 
 run18 : Run nothing s18
 unfolding frame_among frame_at whole_body_at body_at put_at delete_at own_id_at answer_at reply_at id_at blob_at front_at sized_at metadata_of nothing
@@ -339,7 +339,7 @@ run25 = (run24, inl refl)
 
 run26 : Run nothing s26
 unfolding frame_among frame_at whole_body_at body_at put_at delete_at own_id_at answer_at reply_at id_at blob_at front_at sized_at metadata_of nothing
-run26 = (run25, (record { node = 1; partition = 0; ask = Ask.Get top_id }, record { sent = refl; running = refl; says = inl refl }))
+run26 = (run25, (record { node = 1; partition = 0; ask = Ask.Get top_id }, record { sent = refl; running = refl; says = inl refl; pages = tt }))
 
 run27 : Run nothing s27
 unfolding frame_among frame_at whole_body_at body_at put_at delete_at own_id_at answer_at reply_at id_at blob_at front_at sized_at metadata_of nothing
@@ -367,11 +367,11 @@ run32 = (run31, inl refl)
 
 run33 : Run nothing s33
 unfolding frame_among frame_at whole_body_at body_at put_at delete_at own_id_at answer_at reply_at id_at blob_at front_at sized_at metadata_of nothing
-run33 = (run32, (record { node = 1; partition = 0; ask = Ask.Get first_id }, record { sent = refl; running = refl; says = inl refl }))
+run33 = (run32, (record { node = 1; partition = 0; ask = Ask.Get first_id }, record { sent = refl; running = refl; says = inl refl; pages = tt }))
 
 run34 : Run nothing s34
 unfolding frame_among frame_at whole_body_at body_at put_at delete_at own_id_at answer_at reply_at id_at blob_at front_at sized_at metadata_of nothing
-run34 = (run33, (record { node = 1; partition = 0; ask = Ask.Get second_id }, record { sent = refl; running = refl; says = inl refl }))
+run34 = (run33, (record { node = 1; partition = 0; ask = Ask.Get second_id }, record { sent = refl; running = refl; says = inl refl; pages = tt }))
 
 run35 : Run nothing s35
 unfolding frame_among frame_at whole_body_at body_at put_at delete_at own_id_at answer_at reply_at id_at blob_at front_at sized_at metadata_of nothing

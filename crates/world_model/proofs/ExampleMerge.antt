@@ -165,7 +165,7 @@ run6 = (run5, inl refl)
 
 run7 : Run nothing s7
 unfolding frame_among frame_at whole_body_at body_at put_at delete_at own_id_at answer_at reply_at id_at blob_at front_at sized_at metadata_of nothing
-run7 = (run6, (record { node = 1; partition = 0; ask = Ask.Put id stored }, record { sent = refl; running = refl; says = inl refl }))
+run7 = (run6, (record { node = 1; partition = 0; ask = Ask.Put id stored }, record { sent = refl; running = refl; says = inl refl; pages = tt }))
 
 run8 : Run nothing s8
 unfolding frame_among frame_at whole_body_at body_at put_at delete_at own_id_at answer_at reply_at id_at blob_at front_at sized_at metadata_of nothing
@@ -209,7 +209,7 @@ run17 = (run16, inr refl)
 
 run18 : Run nothing s18
 unfolding frame_among frame_at whole_body_at body_at put_at delete_at own_id_at answer_at reply_at id_at blob_at front_at sized_at metadata_of nothing
-run18 = (run17, (record { node = 1; partition = 0; ask = Ask.Get id }, record { sent = refl; running = refl; says = inl refl }))
+run18 = (run17, (record { node = 1; partition = 0; ask = Ask.Get id }, record { sent = refl; running = refl; says = inl refl; pages = tt }))
 
 run19 : Run nothing s19
 unfolding frame_among frame_at whole_body_at body_at put_at delete_at own_id_at answer_at reply_at id_at blob_at front_at sized_at metadata_of nothing

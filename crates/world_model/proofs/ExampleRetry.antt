@@ -163,7 +163,7 @@ run10 = (run9, refl)
 
 run11 : Run nothing s11
 unfolding frame_among frame_at whole_body_at body_at put_at delete_at own_id_at answer_at reply_at id_at blob_at front_at sized_at metadata_of nothing
-run11 = (run10, (record { node = 2; partition = 1; ask = Ask.Put second_id stored }, record { sent = refl; running = refl; says = inl refl }))
+run11 = (run10, (record { node = 2; partition = 1; ask = Ask.Put second_id stored }, record { sent = refl; running = refl; says = inl refl; pages = tt }))
 
 run12 : Run nothing s12
 unfolding frame_among frame_at whole_body_at body_at put_at delete_at own_id_at answer_at reply_at id_at blob_at front_at sized_at metadata_of nothing

@@ -23,4 +23,5 @@ pub mod ExampleDrain
 pub mod ExampleCancel
 pub mod ExampleRetry
 pub mod ExampleMerge
+pub mod ExampleFind
 pub mod ExampleChunks

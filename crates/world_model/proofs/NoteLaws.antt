@@ -12,7 +12,7 @@ use Rattle.quorum_op.specs.declared.cause.Finding.{Finding}
 use Rattle.world_model.specs.Lists.{Has, Earlier}
 use Rattle.req_frame.specs.Faults.{header_of}
 use Rattle.req_frame.specs.Reading.{frame_of}
-use Rattle.req_frame.specs.Spelling.{IsFrameOf, LiesIn, is_exchanged, is_kind}
+use Rattle.req_frame.specs.Spelling.{LiesIn, is_exchanged}
 use Rattle.req_frame.specs.Spelling
 use Rattle.req_frame.proofs.Frames.{among_again, among_takes}
 use Rattle.world_model.specs.Frames.{frame_in}
@@ -32,16 +32,11 @@ use Rattle.world_model.specs.Rules.{Rules}
 
 -- the id of a frame lies in its partition
 pub frame_placed : (bytes : List ℕ) (f : Frame) → frame_in bytes ≡ Some f → LiesIn f.partition f.body
-frame_placed bytes f h = (among_takes is_kind bytes f h).0.place
+frame_placed bytes f h = (among_takes is_exchanged bytes f h).0.place
 
 -- what a decoder reads is the frame on the network
 pub decoded_frame : (bytes : List ℕ) (f : Frame) → frame_of bytes ≡ Some f → frame_in bytes ≡ Some f
-decoded_frame bytes f h =
-    let t = among_takes is_exchanged bytes f h in
-    let r : IsFrameOf is_exchanged f = t.0 in
-    among_again is_kind bytes f
-    (record { kind = ap (λ (b : Bool). b || (Spelling.kind_of f.body == 6)) r.kind; correlation = r.correlation; partition = r.partition; body = r.body; place = r.place })
-    t.1 t.2
+decoded_frame bytes f h = h
 
 -- requests
 
@@ -236,6 +231,7 @@ bytes_said stated a node frame said place e s = go (frame_of frame) (header_of f
     in_body f (Body.Get id) r c b e = absurd (failed_says Cause.Stray said e s)
     in_body f (Body.Peek id) r c b e = absurd (failed_says Cause.Stray said e s)
     in_body f (Body.Delete id at) r c b e = absurd (failed_says Cause.Stray said e s)
+    in_body f (Body.Find max token) r c b e = absurd (failed_says Cause.Stray said e s)
     in_body f (Body.Fetch id) r c b e = absurd (failed_says Cause.Stray said e s)
 
     matched : (f : Frame) (b : Bool) → (f.correlation == a.correlation) ≡ b → frame_of frame ≡ Some f → cond b (body_says stated a.asking f.body) None ≡ Some said → ReplySaid stated (Given (Event.Reply node frame)) a said

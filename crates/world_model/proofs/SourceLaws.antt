@@ -1,6 +1,8 @@
 -- Where the cells of a run come from: from the opening, or from a request that the router sent.
-use Rattle.std.proofs.Common.{◌≡◌, ℕ, ◌==◌, ◌⊎◌, Bool, true, false, cond, ◌&&◌, not, List, [], ◌∷◌, Option, Some, None, refl, sym, ap, ◌∙◌, subst, inl, inr, IsTrue}
-use Rattle.std.specs.List.{list_any}
+use Rattle.std.proofs.Common.{◌≡◌, ℕ, ◌==◌, ◌⊎◌, Bool, true, false, cond, ◌&&◌, not, List, [], ◌∷◌, Option, Some, None, refl, sym, ap, ◌∙◌, subst, inl, inr, IsTrue, slice_get}
+use Rattle.std.proofs.lemmas.List.Elements.{All-get_or}
+use Rattle.std.proofs.lemmas.Option.{slice_get_cases}
+use Rattle.std.specs.List.{list_any, All}
 use Rattle.blob_id.specs.declared.id.BlobId.{BlobId}
 use Rattle.cell_model.specs.declared.cell.Cell.{Cell}
 use Rattle.cell_model.specs.declared.cell.Cell.TheVariants.{Absent, Held, Gone}
@@ -11,9 +13,12 @@ use Rattle.req_frame.specs.declared.frame.Frame.{Frame}
 use Rattle.world_model.specs.declared.step.Step.TheVariants.{Send, Exec, Torn, Restart, Merge}
 use Rattle.world_model.specs.Lists.{Has, Earlier, numbered}
 use Rattle.cell_model.specs.Asks.{id_of, brought, is_refusal, Answers}
+use Rattle.cell_model.specs.Pages.{SaysGone, IsEntryOf, PagesCells}
+use Rattle.find_token.specs.declared.page.Entry.{Entry}
+use Rattle.find_token.specs.declared.page.Page.{Page}
 use Rattle.world_model.specs.Frames.{frame_in, ask_of}
 use Rattle.world_model.specs.Record.{Item, Took, Record}
-use Rattle.world_model.specs.World.{same_id, Cells, Request, Answered, Change, Call, world, call_at, call_of, call_in, call_from, is_at, is_call_at, carried, carried_cell, carried_to, change_of, arriving, arriving_call, arriving_change, doubt_call, doubts_after, replies_after, Allowed, Run, MayRun, MayReply, is_pull}
+use Rattle.world_model.specs.World.{same_id, Cells, Request, Answered, Change, Call, world, call_at, call_of, call_in, call_from, is_at, is_call_at, carried, carried_cell, carried_entry, carried_page, carried_to, change_of, arriving, arriving_call, arriving_change, doubt_call, doubts_after, replies_after, Allowed, Run, MayRun, MayReply, is_pull}
 use Rattle.world_model.proofs.ListLaws.{numbered_has}
 use Rattle.world_model.proofs.CellLaws.{join_is, same_id_true, answers_from}
 use Rattle.quorum_op.proofs.CountLaws.{and_right}
@@ -103,7 +108,7 @@ opening_sourced opening n p id Absent h = tt
 opening_sourced opening n p id (Held b) h = inl (n, p, h)
 opening_sourced opening n p id Gone h = inl (n, p, h)
 
--- who sends a body: the router, or it is a fetch
+-- who sends a body: the router, or it is a pull's
 abbrev Sender : Record → Body → Type 0
 Sender record' body = (IsTrue (is_pull (Some (record { correlation = 0; partition = 0; body = body })))) ⊎ SentBody record' body
 
@@ -112,6 +117,7 @@ brought_from opening record' (Body.Put id b) ask h s = subst (λ (a : Ask). Sour
 brought_from opening record' (Body.Get id) ask h s = subst (λ (a : Ask). Sourced opening record' (id_of a) (brought a)) (some_same _ _ h) tt
 brought_from opening record' (Body.Peek id) ask h s = subst (λ (a : Ask). Sourced opening record' (id_of a) (brought a)) (some_same _ _ h) tt
 brought_from opening record' (Body.Delete id at) ask h s = subst (λ (a : Ask). Sourced opening record' (id_of a) (brought a)) (some_same _ _ h) (elim s [ inl f ↦ absurd cc | inr w ↦ inr (at, w) ])
+brought_from opening record' (Body.Find max token) ask h s = subst (λ (a : Ask). Sourced opening record' (id_of a) (brought a)) (some_same _ _ h) tt
 brought_from opening record' (Body.Fetch id) ask h s = subst (λ (a : Ask). Sourced opening record' (id_of a) (brought a)) (some_same _ _ h) tt
 brought_from opening record' (Body.Answer r) ask h s = absurd cc
 
@@ -164,24 +170,53 @@ change_is : (id : BlobId) (o : Option Cell) (change : Change) → change_of id o
 change_is id None change h = absurd cc
 change_is id (Some cell) change h = let same : record { id = id; cell = cell } ≡ change = some_same _ _ h in (ap (λ (c : Change). c.id) same, ap (λ (c : Change). Some c.cell) same)
 
-fetched : (answer : Answered) (place : ℕ) (change : Change) → carried (Some answer) place ≡ Some change → Fetched answer change
-fetched answer place change h = go (place == 0) h
+-- what is carried, of the answer to a find: an entry of its page that is gone
+record Listed (answer : Answered) (change : Change) : Type 0 where
+  page : Page
+  place : ℕ
+  entry : Entry
+  reply : answer.reply ≡ Reply.Page page
+  at : slice_get page.entries place ≡ Some entry
+  gone : entry.gone ≡ true
+  is : change ≡ record { id = entry.id; cell = Gone }
+
+entry_is : (o : Option Entry) (change : Change) → carried_entry o ≡ Some change → (entry : Entry) × (o ≡ Some entry) × (entry.gone ≡ true) × (change ≡ record { id = entry.id; cell = Gone })
+entry_is None change h = absurd cc
+entry_is (Some entry) change h = go entry.gone refl h
   where
-    in_body : (f : Frame) (body : Body) → answer.request.frame ≡ Some f → f.body ≡ body → (elim body [ Body.Fetch id ↦ change_of id (carried_cell answer.reply) | _ ↦ None ]) ≡ Some change → Fetched answer change
-    in_body f (Body.Fetch id) e b k = let c = change_is id (carried_cell answer.reply) change k in record { f = f; frame = e; body = b ∙ ap Body.Fetch c.0; cell = c.1 }
+    go : (b : Bool) → entry.gone ≡ b → cond b (Some (record { id = entry.id; cell = Gone })) None ≡ Some change → (e : Entry) × (Some entry ≡ Some e) × (e.gone ≡ true) × (change ≡ record { id = e.id; cell = Gone })
+    go true e k = (entry, refl, e, sym (some_same _ _ k))
+    go false e k = absurd cc
+
+listed : (answer : Answered) (place : ℕ) (change : Change) → carried_page answer.reply place ≡ Some change → Listed answer change
+listed answer place change h = go answer.reply refl h
+  where
+    go : (reply : Reply) → answer.reply ≡ reply → carried_page reply place ≡ Some change → Listed answer change
+    go (Reply.Page page) e k =
+        let x = entry_is (slice_get page.entries place) change k in
+        record { page = page; place = place; entry = x.0; reply = e; at = x.1; gone = x.2; is = x.3 }
+    go _ e k = absurd cc
+
+carried_by : (answer : Answered) (place : ℕ) (change : Change) → carried (Some answer) place ≡ Some change → Fetched answer change ⊎ Listed answer change
+carried_by answer place change h = in_frame answer.request.frame refl h
+  where
+    at_first : (f : Frame) (id : BlobId) (b : Bool) → answer.request.frame ≡ Some f → f.body ≡ Body.Fetch id → cond b (change_of id (carried_cell answer.reply)) None ≡ Some change → Fetched answer change
+    at_first f id true e b k = let c = change_is id (carried_cell answer.reply) change k in record { f = f; frame = e; body = b ∙ ap Body.Fetch c.0; cell = c.1 }
+    at_first f id false e b k = absurd cc
+
+    in_body : (f : Frame) (body : Body) → answer.request.frame ≡ Some f → f.body ≡ body → (elim body [ Body.Find max token ↦ carried_page answer.reply place | Body.Fetch id ↦ cond (place == 0) (change_of id (carried_cell answer.reply)) None | _ ↦ None ]) ≡ Some change
+        → Fetched answer change ⊎ Listed answer change
+    in_body f (Body.Find max token) e b k = inr (listed answer place change k)
+    in_body f (Body.Fetch id) e b k = inl (at_first f id (place == 0) e b k)
     in_body f (Body.Put id blob) e b k = absurd cc
     in_body f (Body.Get id) e b k = absurd cc
     in_body f (Body.Peek id) e b k = absurd cc
     in_body f (Body.Delete id at) e b k = absurd cc
     in_body f (Body.Answer r) e b k = absurd cc
 
-    in_frame : (o : Option Frame) → answer.request.frame ≡ o → carried_to o answer.reply ≡ Some change → Fetched answer change
+    in_frame : (o : Option Frame) → answer.request.frame ≡ o → carried_to o answer.reply place ≡ Some change → Fetched answer change ⊎ Listed answer change
     in_frame None e k = absurd cc
     in_frame (Some f) e k = in_body f f.body e refl k
-
-    go : (b : Bool) → cond b (carried_to answer.request.frame answer.reply) None ≡ Some change → Fetched answer change
-    go true k = in_frame answer.request.frame refl k
-    go false k = absurd cc
 
 pub record Sources (opening : Cells) (record' : Record) : Type 0 where
   pub cells : (n p : ℕ) (id : BlobId) → Sourced opening record' id ((world opening record').cells n p id)
@@ -268,24 +303,56 @@ says_sourced opening record' call id reply cell s q h k = go (is_refusal reply) 
         subst (λ (c : Cell). Sourced opening record' id c) (sym is)
         (subst (λ (i : BlobId). Sourced opening record' i ((world opening record').cells call.node call.partition (id_of call.ask))) (ap id_of q) (s.cells call.node call.partition (id_of call.ask)))
 
+-- a blob that is carried was held, and what is carried as gone was gone
+fetched_sourced : (opening : Cells) (record' : Record) (call : Call) (answer : Answered) (change : Change) → Sources opening record' → call_of (Some answer.request) ≡ Some call
+    → MayReply ((world opening record').doubts call.node call.partition) ((world opening record').cells call.node call.partition (id_of call.ask)) call.ask answer.reply
+    → Fetched answer change → Sourced opening record' change.id change.cell
+fetched_sourced opening record' call answer change s is says f =
+    let parts = call_parts (Some answer.request) call is in
+    let request : answer.request ≡ parts.request = some_same _ _ parts.is in
+    let same : f.f ≡ parts.f = some_same _ _ (sym f.frame ∙ (ap (λ (q : Request). q.frame) request ∙ parts.frame)) in
+    let ask : call.ask ≡ Ask.Get change.id = sym (some_same _ _ (ap ask_of (sym f.body ∙ ap (λ (g : Frame). g.body) same) ∙ parts.asks)) in
+    says_sourced opening record' call change.id answer.reply change.cell s ask says f.cell
+
+-- an entry at a place of a page is one of the cells
+entry_of_page : (cells : List ℕ → Cell) (entries : List Entry) (place : ℕ) (entry : Entry) → All (IsEntryOf cells) entries → slice_get entries place ≡ Some entry → IsEntryOf cells entry
+entry_of_page cells entries place entry all at = elim (slice_get_cases entries place).1 [
+  | inl found ↦ (
+      let same : found.0 ≡ entry = some_same _ _ (sym found.2 ∙ at) in
+      subst (IsEntryOf cells) (found.3 ∙ same) (All-get_or (IsEntryOf cells) entries place found.0 found.1 all))
+  | inr past ↦ absurd (let no : None ≡ Some entry = sym past.1 ∙ at in cc)
+]
+
+listed_sourced : (opening : Cells) (record' : Record) (node partition : ℕ) (answer : Answered) (change : Change) → Sources opening record' → PagesCells ((world opening record').cells node partition) answer.reply
+    → Listed answer change → Sourced opening record' change.id change.cell
+listed_sourced opening record' node partition answer change s pages l =
+    let cells = (world opening record').cells node partition in
+    let all : All (IsEntryOf cells) l.page.entries = subst (PagesCells cells) l.reply pages in
+    let entry : SaysGone l.entry.gone (cells l.entry.id) = entry_of_page cells l.page.entries l.place l.entry all l.at in
+    let gone : cells l.entry.id ≡ Gone = subst (λ (b : Bool). SaysGone b (cells l.entry.id)) l.gone entry in
+    subst (λ (w : Change). Sourced opening record' w.id w.cell) (sym l.is)
+    (subst (λ (c : Cell). Sourced opening record' l.entry.id c) gone (s.cells node partition l.entry.id))
+
 reply_sourced : (opening : Cells) (record' : Record) (item : Item) (answer : Answered) (place : ℕ) (change : Change) → Run opening record' → Allowed (world opening record') item → Sources opening record'
     → Has (replies_after (world opening record') item) answer → carried (Some answer) place ≡ Some change → Sourced opening record' change.id change.cell
 reply_sourced opening record' item answer place change r al s h e = elim (answer_new (world opening record') item answer h) [
   | inl old ↦ s.replies answer place change old e
   | inr new ↦ (
-      let f = fetched answer place change e in
+      let c = carried_by answer place change e in
       elim new [
         | inl ran ↦ (
             let may = subst (λ i. Allowed (world opening record') i) ran.is al in
             let call : Call = may.0 in
             let run : MayRun (world opening record') ran.send call answer.reply = may.1 in
             let is : call_of (Some answer.request) ≡ Some call = ap call_of (sym ran.sent) ∙ run.sent in
-            let parts = call_parts (Some answer.request) call is in
-            let request : answer.request ≡ parts.request = some_same _ _ parts.is in
-            let same : f.f ≡ parts.f = some_same _ _ (sym f.frame ∙ (ap (λ (q : Request). q.frame) request ∙ parts.frame)) in
-            let ask : call.ask ≡ Ask.Get change.id = sym (some_same _ _ (ap ask_of (sym f.body ∙ ap (λ (g : Frame). g.body) same) ∙ parts.asks)) in
-            says_sourced opening record' call change.id answer.reply change.cell s ask run.says f.cell)
-        | inr t ↦ absurd (refusal_carries answer.reply change.cell (ap is_refusal t) f.cell)
+            elim c [
+              | inl f ↦ fetched_sourced opening record' call answer change s is run.says f
+              | inr l ↦ listed_sourced opening record' call.node call.partition answer change s run.pages l
+            ])
+        | inr t ↦ elim c [
+          | inl f ↦ absurd (refusal_carries answer.reply change.cell (ap is_refusal t) f.cell)
+          | inr l ↦ absurd (let no : Reply.Fault ≡ Reply.Page l.page = sym t ∙ l.reply in cc)
+        ]
       ])
 ]
 

@@ -137,6 +137,7 @@ put_body operation part attempt id (Body.Put other b) h = (b, ap (λ (i : BlobId
 put_body operation part attempt id (Body.Get other) h = absurd cc
 put_body operation part attempt id (Body.Peek other) h = absurd cc
 put_body operation part attempt id (Body.Delete other at) h = absurd cc
+put_body operation part attempt id (Body.Find max token) h = absurd cc
 put_body operation part attempt id (Body.Fetch other) h = absurd cc
 put_body operation part attempt id (Body.Answer r) h = absurd cc
 
@@ -145,6 +146,7 @@ read_body operation part id (Body.Put other b) h = absurd cc
 read_body operation part id (Body.Get other) h = inl (ap Body.Get (same_id_true other id h))
 read_body operation part id (Body.Peek other) h = inr (ap Body.Peek (same_id_true other id h))
 read_body operation part id (Body.Delete other at) h = absurd cc
+read_body operation part id (Body.Find max token) h = absurd cc
 read_body operation part id (Body.Fetch other) h = absurd cc
 read_body operation part id (Body.Answer r) h = absurd cc
 
@@ -153,6 +155,7 @@ delete_body operation part id (Body.Put other b) h = absurd cc
 delete_body operation part id (Body.Get other) h = absurd cc
 delete_body operation part id (Body.Peek other) h = absurd cc
 delete_body operation part id (Body.Delete other at) h = (at, ap (λ (i : BlobId). Body.Delete i at) (same_id_true other id h))
+delete_body operation part id (Body.Find max token) h = absurd cc
 delete_body operation part id (Body.Fetch other) h = absurd cc
 delete_body operation part id (Body.Answer r) h = absurd cc
 

@@ -1,5 +1,5 @@
 -- The network and its replicas, and which steps are allowed.
-use Rattle.std.specs.Prelude.{◌≡◌, ◌≢◌, ℕ, ◌≤◌, ◌==◌, Bool, true, false, ◌&&◌, ◌||◌, not, cond, ◌⊎◌, List, [], ◌∷◌, ◌++◌, Option, Some, None, IsSome, IsTrue, drop, bytes_eq}
+use Rattle.std.specs.Prelude.{◌≡◌, ◌≢◌, ℕ, ◌≤◌, ◌==◌, Bool, true, false, ◌&&◌, ◌||◌, not, cond, ◌⊎◌, List, [], ◌∷◌, ◌++◌, Option, Some, None, IsSome, IsTrue, drop, slice_get, bytes_eq}
 use Rattle.std.specs.List.{list_any}
 use Rattle.blob_id.specs.declared.id.BlobId.{BlobId}
 use Rattle.cell_model.specs.declared.ask.Ask.{Ask}
@@ -8,6 +8,8 @@ use Rattle.cell_model.specs.declared.cell.Cell.{Cell}
 use Rattle.cell_model.specs.declared.cell.Cell.TheVariants.{Absent, Held, Gone}
 use Rattle.cell_model.specs.Asks.{id_of, brought, landed, Answers, IsRefusal}
 use Rattle.cell_model.specs.Cells.{join}
+use Rattle.cell_model.specs.Pages.{PagesCells}
+use Rattle.find_token.specs.declared.page.Entry.{Entry}
 use Rattle.req_frame.specs.declared.frame.Body.{Body}
 use Rattle.req_frame.specs.declared.frame.Frame.{Frame}
 use Rattle.world_model.specs.declared.step.Event.{Event}
@@ -103,17 +105,28 @@ abbrev pub change_of : BlobId → Option Cell → Option Change
 change_of id None = None
 change_of id (Some cell) = Some (record { id = id; cell = cell })
 
-abbrev pub carried_to : Option Frame → Reply → Option Change
-carried_to None reply = None
-carried_to (Some f) reply = elim f.body [
-  | Body.Fetch id ↦ change_of id (carried_cell reply)
+-- what an entry of a page carries: that its id is gone, where it says so
+abbrev pub carried_entry : Option Entry → Option Change
+carried_entry None = None
+carried_entry (Some entry) = cond entry.gone (Some (record { id = entry.id; cell = Gone })) None
+
+abbrev pub carried_page : Reply → ℕ → Option Change
+carried_page (Reply.Page page) place = carried_entry (slice_get page.entries place)
+carried_page _ place = None
+
+abbrev pub carried_to : Option Frame → Reply → ℕ → Option Change
+carried_to None reply place = None
+carried_to (Some f) reply place = elim f.body [
+  | Body.Find max token ↦ carried_page reply place
+  | Body.Fetch id ↦ cond (place == 0) (change_of id (carried_cell reply)) None
   | _ ↦ None
 ]
 
--- What an answer carries at a place, for its asker to merge: an answer to a fetch carries its blob, or that it is gone, at place 0.
+-- What an answer carries at a place, for its asker to merge: an answer to a find carries at each place of its page the entry there, if that is
+-- gone, and an answer to a fetch its blob, or that it is gone, at place 0.
 abbrev pub carried : Option Answered → ℕ → Option Change
 carried None place = None
-carried (Some answer) place = cond (place == 0) (carried_to answer.request.frame answer.reply) None
+carried (Some answer) place = carried_to answer.request.frame answer.reply place
 
 -- what a step joins to the cell of an id at a replica
 abbrev pub arriving_call : Option Call → Reply → ℕ → ℕ → BlobId → Cell
@@ -211,10 +224,12 @@ abbrev pub MayReply : Option Change → Cell → Ask → Reply → Type 0
 MayReply None cell ask reply = Answers cell ask reply ⊎ (IsRefusal ask reply × (reply ≢ Reply.Fault)) ⊎ (reply ≡ Reply.NoPartition)
 MayReply (Some doubt) cell ask reply = reply ≡ Reply.Down
 
+-- a replica that runs an ask says what it may, and its pages are of its own cells
 pub record MayRun (w : World) (send : ℕ) (call : Call) (reply : Reply) : Type 0 where
   pub sent : call_at w send ≡ Some call
   pub running : w.stopped call.node ≡ false
   pub says : MayReply (w.doubts call.node call.partition) (w.cells call.node call.partition (id_of call.ask)) call.ask reply
+  pub pages : PagesCells (w.cells call.node call.partition) reply
 
 pub record MayTear (w : World) (send : ℕ) (call : Call) : Type 0 where
   pub sent : call_at w send ≡ Some call
@@ -238,6 +253,7 @@ pub record MayMerge (w : World) (node partition reply place : ℕ) (torn : Bool)
 abbrev pub is_pull : Option Frame → Bool
 is_pull None = false
 is_pull (Some f) = elim f.body [
+  | Body.Find max token ↦ true
   | Body.Fetch id ↦ true
   | _ ↦ false
 ]

@@ -8,7 +8,7 @@ ghost use Rattle.world_model.specs.Fabric.{Awaits, DidNothing, Gave, HasNode, Is
 ghost use Rattle.world_model.specs.Shape.{IsShape};
 ghost use Rattle.world_model.specs.World.{Cells};
 
-use crate::order::{Order, Told};
+use crate::order::{Order, Refusal, Told};
 use crate::shape::Shape;
 use crate::step::Event;
 use blob_id::Memory;
@@ -19,6 +19,9 @@ use thiserror::Error;
 pub enum StartFault {
     #[error("the network failed")]
     Failed,
+    /// This disk has another size, or isn't that of such a log.
+    #[error("a disk isn't opened")]
+    Refused(Refusal),
     #[error("out of memory")]
     Memory,
 }
