@@ -5,6 +5,7 @@ pub mod Standing
 pub mod Putting
 pub mod Adding
 pub mod Replies
+pub mod Beside
 pub mod Noting
 pub mod Restoring
 pub mod Room

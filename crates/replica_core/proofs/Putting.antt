@@ -6,7 +6,7 @@ use Rattle.blob_id.specs.declared.blob.Blob.{Blob}
 use Rattle.cell_model.specs.declared.cell.Cell.{Cell}
 use Rattle.cell_model.specs.declared.cell.Cell.TheVariants.{Absent, Held, Gone}
 use Rattle.cell_model.specs.declared.ask.Ask.{Ask}
-use Rattle.cell_model.specs.declared.ask.Ask.TheVariants.{Put, Get, Peek, Delete, Merge}
+use Rattle.cell_model.specs.declared.ask.Ask.TheVariants.{Put, Get, Peek, Delete, Merge, Find, End, Token, SaveToken, CompactBegin, CompactStep, CompactCommit}
 use Rattle.cell_model.specs.Cells.{join}
 use Rattle.cell_model.specs.Asks.{brought}
 use Rattle.log_manifest.specs.declared.manifest.LogSettings.{LogSettings}
@@ -41,6 +41,27 @@ one_due lsn (Held held) (Merge id Absent) changes = absurd (changes refl)
 one_due lsn (Held held) (Merge id (Held blob)) changes = absurd (changes refl)
 one_due lsn (Held held) (Merge id Gone) changes = refl
 one_due lsn Gone (Merge id cell) changes = absurd (changes refl)
+one_due lsn Absent (Find token max) changes = absurd (changes refl)
+one_due lsn (Held held) (Find token max) changes = absurd (changes refl)
+one_due lsn Gone (Find token max) changes = absurd (changes refl)
+one_due lsn Absent End changes = absurd (changes refl)
+one_due lsn (Held held) End changes = absurd (changes refl)
+one_due lsn Gone End changes = absurd (changes refl)
+one_due lsn Absent (Token peer) changes = absurd (changes refl)
+one_due lsn (Held held) (Token peer) changes = absurd (changes refl)
+one_due lsn Gone (Token peer) changes = absurd (changes refl)
+one_due lsn Absent (SaveToken peer token) changes = absurd (changes refl)
+one_due lsn (Held held) (SaveToken peer token) changes = absurd (changes refl)
+one_due lsn Gone (SaveToken peer token) changes = absurd (changes refl)
+one_due lsn Absent CompactBegin changes = absurd (changes refl)
+one_due lsn (Held held) CompactBegin changes = absurd (changes refl)
+one_due lsn Gone CompactBegin changes = absurd (changes refl)
+one_due lsn Absent (CompactStep records) changes = absurd (changes refl)
+one_due lsn (Held held) (CompactStep records) changes = absurd (changes refl)
+one_due lsn Gone (CompactStep records) changes = absurd (changes refl)
+one_due lsn Absent CompactCommit changes = absurd (changes refl)
+one_due lsn (Held held) CompactCommit changes = absurd (changes refl)
+one_due lsn Gone CompactCommit changes = absurd (changes refl)
 
 -- and one that leaves it has none
 pub none_due : (lsn : ℕ) (cell : Cell) (ask : Ask) → join cell (brought ask) ≡ cell → due_record lsn cell ask ≡ []
@@ -63,6 +84,27 @@ none_due lsn (Held held) (Merge id Absent) leaves = refl
 none_due lsn (Held held) (Merge id (Held blob)) leaves = refl
 none_due lsn (Held held) (Merge id Gone) leaves = absurd (cc leaves)
 none_due lsn Gone (Merge id cell) leaves = refl
+none_due lsn Absent (Find token max) leaves = refl
+none_due lsn (Held held) (Find token max) leaves = refl
+none_due lsn Gone (Find token max) leaves = refl
+none_due lsn Absent End leaves = refl
+none_due lsn (Held held) End leaves = refl
+none_due lsn Gone End leaves = refl
+none_due lsn Absent (Token peer) leaves = refl
+none_due lsn (Held held) (Token peer) leaves = refl
+none_due lsn Gone (Token peer) leaves = refl
+none_due lsn Absent (SaveToken peer token) leaves = refl
+none_due lsn (Held held) (SaveToken peer token) leaves = refl
+none_due lsn Gone (SaveToken peer token) leaves = refl
+none_due lsn Absent CompactBegin leaves = refl
+none_due lsn (Held held) CompactBegin leaves = refl
+none_due lsn Gone CompactBegin leaves = refl
+none_due lsn Absent (CompactStep records) leaves = refl
+none_due lsn (Held held) (CompactStep records) leaves = refl
+none_due lsn Gone (CompactStep records) leaves = refl
+none_due lsn Absent CompactCommit leaves = refl
+none_due lsn (Held held) CompactCommit leaves = refl
+none_due lsn Gone CompactCommit leaves = refl
 
 pub due_put : (lsn : ℕ) (cell : Cell) (id : List ℕ) (blob : Blob) → cell ≡ Absent → due_record lsn cell (Put id blob) ≡ written.Put lsn id blob ∷ []
 due_put lsn cell id blob is = ap (λ (x : Cell). due_record lsn x (Put id blob)) is

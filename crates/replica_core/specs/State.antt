@@ -1,15 +1,17 @@
 -- What callers see of a replica, and what an ask does.
-use Rattle.std.specs.Prelude.{◌≡◌, ◌≢◌, ◌⊎◌, ◌↔◌, ◌+◌, ◌≤◌, ℕ, List, [], ◌∷◌, ◌++◌, length, Bool, true, false, cond, Result, Ok, Err}
+use Rattle.std.specs.Prelude.{◌≡◌, ◌≢◌, ◌⊎◌, ◌↔◌, ◌+◌, ◌≤◌, ℕ, List, [], ◌∷◌, ◌++◌, length, Bool, true, false, cond, if◌then◌else◌, Result, Ok, Err, ⊤}
 use Rattle.outside.specs.Causes.{Rose}
 use Rattle.disk_core.specs.Content.{Content, ChangesBy}
+use Rattle.find_token.specs.declared.token.FindToken.TheVariants.{Start}
 use Rattle.cell_model.specs.declared.cell.Cell.{Cell}
 use Rattle.cell_model.specs.declared.cell.Cell.TheVariants.{Absent, Held, Gone}
 use Rattle.cell_model.specs.declared.ask.Ask.{Ask}
-use Rattle.cell_model.specs.declared.ask.Ask.TheVariants.{Put, Get, Peek, Delete, Merge}
+use Rattle.cell_model.specs.declared.ask.Ask.TheVariants.{Put, Delete, Merge, Find, End, Token, CompactBegin, CompactStep, CompactCommit}
 use Rattle.cell_model.specs.declared.ask.Reply.{Reply}
 use Rattle.cell_model.specs.declared.ask.Reply.TheVariants as replied
 use Rattle.cell_model.specs.Cells.{join, cell_in}
-use Rattle.cell_model.specs.Asks.{Told, IsStep, CanAnswer, AnswersInRange, id_of, brought, is_refusal}
+use Rattle.cell_model.specs.Told.{Told}
+use Rattle.cell_model.specs.Asks.{IsStep, CanAnswer, AnswersInRange, id_of, brought, is_refusal}
 use Rattle.log_manifest.specs.declared.manifest.LogSettings.{LogSettings}
 use Rattle.msg_format.specs.declared.record.Record.{Record}
 use Rattle.msg_format.specs.declared.record.Record.TheVariants as written
@@ -26,8 +28,13 @@ pub record ReplicaState (D : Type 0) : Type 0 where
   pub cells : List (List ℕ × Cell)
   pub down : Bool
 
+-- its cells; it keeps no tokens and compacts nothing
 abbrev pub told_of : {D : Type 0} → ReplicaState D → Told
-told_of replica = record { cells = replica.cells }
+told_of replica = record { cells = replica.cells; tokens = []; planned = false; idle = true }
+
+-- a replica answers one fault at most, and is down from then on
+abbrev pub faults_of : {D : Type 0} → ReplicaState D → ℕ
+faults_of replica = if replica.down then 1 else 0
 
 -- an ask changes this cell
 abbrev pub Changes : Cell → Ask → Type 0
@@ -36,12 +43,10 @@ Changes cell ask = join cell (brought ask) ≢ cell
 -- how many bytes the record has that an ask puts where it changes its cell
 abbrev pub needed : Ask → ℕ
 needed (Put id blob) = record_size (written.Put 0 id blob)
-needed (Get id) = 0
-needed (Peek id) = 0
 needed (Delete id at) = record_size (written.Delete 0 id at)
-needed (Merge id Absent) = 0
 needed (Merge id (Held blob)) = record_size (written.Put 0 id blob)
 needed (Merge id Gone) = record_size (written.Delete 0 id 0)
+needed _ = 0
 
 -- The record that is to be put, with this lsn, where an ask comes to this cell: one exactly where it changes the cell. No moment comes with
 -- a cell that is merged.
@@ -93,12 +98,23 @@ abbrev pub GoesDown : Reply → Bool → Bool → Type 0
 GoesDown replied.Fault old new = (old ≡ false) × (new ≡ true)
 GoesDown _ old new = new ≡ old
 
+-- What is answered, with this end lsn, of the log and of what is kept beside it: its end, no page yet, no token but the start, and no plan.
+abbrev pub TellsLog : ℕ → Ask → Reply → Type 0
+TellsLog end (Find token max) reply = reply ≡ replied.Page (record { entries = []; next = token })
+TellsLog end End reply = reply ≡ replied.End end
+TellsLog end (Token peer) reply = reply ≡ replied.Token Start
+TellsLog end CompactBegin reply = reply ≡ replied.Nothing
+TellsLog end (CompactStep records) reply = reply ≡ replied.NoPlan
+TellsLog end CompactCommit reply = reply ≡ replied.NoPlan
+TellsLog end _ reply = ⊤
+
 -- One ask: what it is answered, and what it does to the cells and to the disk.
 pub record IsAsked {D : Type 0} (tells : Type 0) (content : D → Content) (size faults : D → ℕ) (old : ReplicaState D) (ask : Ask) (reply : Reply) (new : ReplicaState D) : Type 0 where
   -- the table of asks
   pub kind : CanAnswer ask reply
   pub range : AnswersInRange reply
   pub step : tells → IsStep (told_of old) ask reply (told_of new)
+  pub log : is_refusal reply ≡ false → TellsLog old.log.table.end ask reply
   -- at each moment a crash leaves the cells from before, or those with what the ask brings
   pub during : tells → old.down ≡ false → ChangesBy (JoinsCell old.log.table.settings (cell_in old.cells) old.log.table.end (id_of ask) (brought ask)) (content old.log.disk) (content new.log.disk)
   -- the disk has the records from before, and behind them the one that was put; after a fault it may have the due one or not

@@ -9,6 +9,7 @@ use crate::{LogSettings, Replica};
 use blob_id::{Blob, BlobId, Bytes, Kind, Memory};
 use cell_model::{Ask, Cell, ReplicaPort, Reply};
 use disk_core::{Disk, FuseDisk, MemDisk, Pick};
+use find_token::FindToken;
 use outside::Failed;
 use std::alloc::Global;
 use std::process::Abort;
@@ -27,6 +28,11 @@ enum Answer {
     Full,
     Fault,
     Down,
+    Page(usize, FindToken),
+    End(u64),
+    Token(FindToken),
+    Nothing,
+    NoPlan,
     Other,
 }
 
@@ -42,7 +48,12 @@ fn answer_of(reply: &Reply) -> Answer {
         Reply::Full => Answer::Full,
         Reply::Fault => Answer::Fault,
         Reply::Down => Answer::Down,
-        Reply::Memory | Reply::NoPartition => Answer::Other,
+        Reply::Page(page) => Answer::Page(page.entries.len(), page.next),
+        Reply::End(lsn) => Answer::End(*lsn),
+        Reply::Token(token) => Answer::Token(*token),
+        Reply::Nothing => Answer::Nothing,
+        Reply::NoPlan => Answer::NoPlan,
+        _ => Answer::Other,
     }
 }
 
@@ -437,6 +448,65 @@ fn a_replica_is_a_port(rt: HostRuntime) -> Result<(), Fail> {
         Answer::Done
     );
     assert_eq!(rt; asked(&mut replica, Ask::Get { id }), Answer::Gone);
+    Ok(())
+}
+
+#[test]
+fn a_replica_tells_of_its_log(rt: HostRuntime) -> Result<(), Fail> {
+    let alloc = rt.alloc();
+    let mut replica = open(&rt, alloc, new_disk(alloc, 2, Pick::Drop)?, 2);
+    let blob = blob_of(alloc, 2)?;
+    let token = FindToken::Journal(0);
+    assert_eq!(rt; asked(&mut replica, Ask::End), Answer::End(0));
+    assert_eq!(rt;
+        asked(&mut replica, Ask::Put { id: id_of(1), blob }),
+        Answer::Stored
+    );
+    assert_eq!(rt; asked(&mut replica, Ask::End), Answer::End(1));
+    assert_eq!(rt;
+        asked(&mut replica, Ask::Find { token, max: 1 }),
+        Answer::Page(0, token)
+    );
+    assert_eq!(rt;
+        asked(&mut replica, Ask::SaveToken { peer: 2, token }),
+        Answer::Done
+    );
+    assert_eq!(rt;
+        asked(&mut replica, Ask::Token { peer: 2 }),
+        Answer::Token(FindToken::Start)
+    );
+    assert_eq!(rt; asked(&mut replica, Ask::CompactBegin), Answer::Nothing);
+    assert_eq!(rt;
+        asked(&mut replica, Ask::CompactStep { records: 1 }),
+        Answer::NoPlan
+    );
+    assert_eq!(rt; asked(&mut replica, Ask::CompactCommit), Answer::NoPlan);
+    Ok(())
+}
+
+#[test]
+fn a_replica_that_is_down_tells_nothing(rt: HostRuntime) -> Result<(), Fail> {
+    let alloc = rt.alloc();
+    let disk = run(&rt, alloc, new_disk(alloc, 2, Pick::Drop)?, 2, &[], 0)?;
+    let mut replica = open(&rt, alloc, fused(disk, OPENING), 2);
+    assert_steps(&rt, alloc, &mut replica, &CUT)?;
+    let token = FindToken::Start;
+    assert_eq!(rt;
+        asked(&mut replica, Ask::Find { token, max: 1 }),
+        Answer::Down
+    );
+    assert_eq!(rt; asked(&mut replica, Ask::End), Answer::Down);
+    assert_eq!(rt; asked(&mut replica, Ask::Token { peer: 2 }), Answer::Down);
+    assert_eq!(rt;
+        asked(&mut replica, Ask::SaveToken { peer: 2, token }),
+        Answer::Down
+    );
+    assert_eq!(rt; asked(&mut replica, Ask::CompactBegin), Answer::Down);
+    assert_eq!(rt;
+        asked(&mut replica, Ask::CompactStep { records: 1 }),
+        Answer::Down
+    );
+    assert_eq!(rt; asked(&mut replica, Ask::CompactCommit), Answer::Down);
     Ok(())
 }
 
