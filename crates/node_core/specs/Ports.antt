@@ -6,7 +6,8 @@ use Rattle.std.specs.Option.{option_map}
 use Rattle.outside.specs.Causes.{Rose}
 use Rattle.cell_model.specs.declared.ask.Ask.{Ask}
 use Rattle.cell_model.specs.declared.ask.Reply.{Reply}
-use Rattle.cell_model.specs.Asks.{Told, IsStep, CanAnswer, Refuses, AnswersInRange}
+use Rattle.cell_model.specs.Told.{Told}
+use Rattle.cell_model.specs.Asks.{IsStep, CanAnswer, Refuses, AnswersInRange}
 
 -- the port of a partition
 abbrev pub port_in : {P : Type 0} → List (ℕ × P) → ℕ → Option P

@@ -9,17 +9,18 @@ ghost use Rattle.cell_model.specs.declared.ask.Reply.{Reply};
 ghost use Rattle.field_codec.specs.Spelling.{IsBytes};
 ghost use Rattle.node_core.specs.Nodes.{Node, NodeAsked};
 ghost use Rattle.node_core.specs.Ports.{IsAsked, port_in};
-ghost use Rattle.node_core.specs.Requests.{request_in, request_of};
+ghost use Rattle.node_core.specs.Requests.{request_in, request_of, NamesOwn};
 ghost use Rattle.req_frame.specs.Spelling.{IsFrame, frame_text};
 ghost use Rattle.req_frame.specs.declared.frame.Frame.{Frame};
 
 use cell_model::ReplicaPort;
 
-/// Bytes are a request exactly where they spell the frame of one, whose id lies in the partition that is asked.
+/// Bytes are a request exactly where they spell the frame of one. The id of a put, a peek or a delete lies in the
+/// partition that is asked.
 pub fn requests_are_spelled()
     ensures read { (bytes : List ℕ) (correlation partition : ℕ) (ask : Ask) → request_in bytes ≡ Some (correlation, partition, ask) → (f : Frame) × IsFrame f × IsBytes bytes × (bytes ≡ frame_text f) × (request_of f ≡ Some (correlation, partition, ask)) }
     ensures spelled { (bytes : List ℕ) (f : Frame) → IsFrame f → IsBytes bytes → bytes ≡ frame_text f → request_in bytes ≡ request_of f }
-    ensures own { (bytes : List ℕ) (correlation partition : ℕ) (ask : Ask) → request_in bytes ≡ Some (correlation, partition, ask) → partition_of (id_of ask) ≡ partition }
+    ensures own { (bytes : List ℕ) (correlation partition : ℕ) (ask : Ask) → request_in bytes ≡ Some (correlation, partition, ask) → NamesOwn ask → partition_of (id_of ask) ≡ partition }
 {}
 
 /// A node answers `NoPartition` exactly where it has no port of the partition.

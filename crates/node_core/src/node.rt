@@ -4,10 +4,11 @@ ghost use Rattle.std.specs.Prelude.{◌≡◌, nat_eq, IfOk, IfErr, IfSome, OnEr
 ghost use Rattle.std.specs.List.{IsDistinct};
 ghost use Rattle.std.specs.Map.{keys_of};
 ghost use Rattle.std.specs.Option.{option_copied};
-ghost use Rattle.cell_model.specs.Asks.{AsksInRange, AnswersInRange};
+ghost use Rattle.cell_model.specs.Asks.{AsksInRange};
 ghost use Rattle.node_core.specs.Nodes.{Handles, IsIndex, LosesReply, NodeAsked};
 ghost use Rattle.node_core.specs.Ports.{ArePorts, IsAsked, place_in, port_in};
-ghost use Rattle.node_core.specs.Requests.{request_in};
+ghost use Rattle.node_core.specs.Requests.{request_in, IsRequested};
+ghost use Rattle.req_frame.specs.Spelling.{IsReply};
 
 use crate::requests::{read_request, write_reply};
 use blob_id::{Bytes, Memory};
@@ -97,9 +98,11 @@ impl<P: ReplicaPort> NodeCore<P> {
 
     /// Asks the port of a partition.
     fn ask(&mut self, partition: u32, ask: Ask) -> Reply
-        requires { AsksInRange ask }
+        requires range { AsksInRange ask }
+        requires requested { IsRequested ask }
         ensures asked { NodeAsked (IsAsked P.tells P.may_refuse P.told P.faults) self.old partition ask result self.new }
-        ensures range { AnswersInRange result }
+        // What it answers has a frame.
+        ensures spelled { IsReply result }
     {
         match self.place_of(partition) {
             Some(place) => self.ports[place].1.ask(ask),

@@ -141,6 +141,38 @@ fn requests_are_answered(rt: HostRuntime) -> Result<(), Fail> {
     Ok(())
 }
 
+/// A find of 2 entries behind lsn 7, in partition 0.
+const FIND: [u8; 28] = [
+    0x41, 0x4d, 1, 5, 0, 0, 0, 2, 0, 0, 0, 1, 0, 0, 0, 0, 0, 10, 2, 1, 0, 0, 0, 0, 0, 0, 0, 7,
+];
+
+/// The page without entries, and the same token.
+const PAGE: [u8; 28] = [
+    0x41, 0x4d, 1, 18, 0, 0, 0, 2, 0, 0, 0, 1, 0, 0, 0, 0, 0, 10, 0, 1, 0, 0, 0, 0, 0, 0, 0, 7,
+];
+
+#[test]
+fn finds_and_fetches_are_answered(rt: HostRuntime) -> Result<(), Fail> {
+    let alloc = rt.alloc();
+    let mut node = node_over(alloc, PlainReplica::new(alloc), PlainReplica::new(alloc))?;
+    match node.on_frame(&FIND)? {
+        Some(reply) => assert_eq!(rt; reply.as_slice(), PAGE.as_slice()),
+        None => panic!(rt; "no page"),
+    }
+    assert!(rt; is_answered(&mut node, alloc, 1, 0, 0, &[])?);
+    assert!(rt; is_answered(&mut node, alloc, 6, 0, 4, &BLOB)?);
+    // A fetch may name an id of any partition.
+    let mut fetch = Vec::from_slice(alloc, &GET)?;
+    fetch[3] = 6;
+    fetch[13] = 7;
+    let absent = answer(alloc, 7, 5, &[])?;
+    match node.on_frame(fetch.as_slice())? {
+        Some(reply) => assert_eq!(rt; reply.as_slice(), absent.as_slice()),
+        None => panic!(rt; "no answer"),
+    }
+    Ok(())
+}
+
 #[test]
 fn the_ports_come_back(rt: HostRuntime) -> Result<(), Fail> {
     let alloc = rt.alloc();
@@ -168,8 +200,8 @@ fn what_is_no_request_is_not_answered(rt: HostRuntime) -> Result<(), Fail> {
     assert!(rt; node.on_frame(stored.as_slice())?.is_none());
     assert!(rt; node.on_frame(&[])?.is_none());
     assert!(rt; node.on_frame(&GET[..37])?.is_none());
-    // A fetch, an id of another partition, a put without its blob.
-    for (place, byte) in [(3, 6), (21, 7), (3, 1)] {
+    // A kind that no frame has, an id of another partition, a put without its blob.
+    for (place, byte) in [(3, 7), (21, 7), (3, 1)] {
         let mut bytes = Vec::from_slice(alloc, &GET)?;
         bytes[place] = byte;
         assert!(rt;
@@ -220,13 +252,13 @@ enum Refusal {
 }
 
 impl ReplicaPort for RefusingPort {
-    ghost use Rattle.std.specs.Prelude.{[], true};
+    ghost use Rattle.std.specs.Prelude.{[], true, false};
 
     ghost tells = { ⊥ };
 
     ghost may_refuse = { true };
 
-    ghost told = { λ _. record { cells = [] } };
+    ghost told = { λ _. record { cells = []; tokens = []; planned = false; idle = true } };
 
     ghost faults = { λ port. port.faults };
 
@@ -243,10 +275,7 @@ impl ReplicaPort for RefusingPort {
                 }
                 Refusal::Down => Reply::Down,
             },
-            Ask::Get { .. } => Reply::Down,
-            Ask::Peek { .. } => Reply::Down,
-            Ask::Delete { .. } => Reply::Down,
-            Ask::Merge { .. } => Reply::Down,
+            _ => Reply::Down,
         }
     }
 }

@@ -5,6 +5,7 @@ use Rattle.node_core.specs.Nodes.{IsNode, IsIndex}
 use Rattle.node_core.specs.Ports.{place_in}
 use Rattle.node_core.proofs.AskLemmas.{asked_there, asked_nowhere}
 use Rattle.node_core.proofs.PortLemmas.{IsAt, stands_at, stands_nowhere, found_ready, kept_ports}
+use Rattle.node_core.proofs.ReplyLemmas.{reply_spelled}
 use Rattle.node_core.proofs.node.NodeCore.ask.Goals as goal
 use Rattle.node_core.proofs.node.NodeCore.ask.Goals.{In-Some}
 
@@ -44,3 +45,6 @@ returns-in-Some-clause-asked g c =
 
 pub returns-in-None-clause-asked : goal.returns-in-None-clause-asked
 returns-in-None-clause-asked g c = asked_nowhere _ c.args.self.now c.args.partition c.args.ask (stands_nowhere c.args.self.now.ports c.args.partition (sym c.place_of.ensures ∙ c.in-None.is))
+
+pub returns-in-Some-clause-spelled : goal.returns-in-Some-clause-spelled
+returns-in-Some-clause-spelled g c = reply_spelled c.args.ask c.ask.result c.requires.requested c.ask.ensures.kind c.ask.ensures.range
