@@ -172,12 +172,14 @@ sent_below rules before operation aim body kept may = go aim body may
     go None (Body.Put id blob) m = absurd m
     go None (Body.Get id) m = absurd m
     go None (Body.Peek id) m = absurd m
+    go None (Body.Find max token) m = absurd m
     go None (Body.Fetch id) m = absurd m
     go None (Body.Answer reply) m = absurd m
     go (Some aim) (Body.Put id blob) m = drew aim.part aim.attempt id blob m.drew
     go (Some aim) (Body.Get id) m = let r = m.1 in begun_below rules before operation r.asks.begun kept (r.asks.then, r.asks.began)
     go (Some aim) (Body.Peek id) m = let r = m.1 in begun_below rules before operation r.asks.begun kept (r.asks.then, r.asks.began)
     go (Some aim) (Body.Delete id at) m = let r = m.1 in begun_below rules before operation r.asks.begun kept (r.asks.then, r.asks.began)
+    go (Some aim) (Body.Find max token) m = absurd m
     go (Some aim) (Body.Fetch id) m = absurd m
     go (Some aim) (Body.Answer reply) m = absurd m
 

@@ -33,9 +33,19 @@ fn put_finding(reply: &Reply) -> Finding
         Reply::Fault => Finding::Failed(Cause::Fault),
         Reply::Down => Finding::Failed(Cause::Down),
         Reply::Memory => Finding::Failed(Cause::Memory),
-        Reply::Blob(_) | Reply::Absent | Reply::Done | Reply::NoPartition => Finding::Failed(
-            Cause::Stray,
-        ),
+        Reply::Blob(_)
+        | Reply::Absent
+        | Reply::Done
+        | Reply::NoPartition
+        | Reply::Page(_)
+        | Reply::End(_)
+        | Reply::Token(_)
+        | Reply::Planned
+        | Reply::Nothing
+        | Reply::More
+        | Reply::Copied
+        | Reply::Reclaimed(_)
+        | Reply::NoPlan => Finding::Failed(Cause::Stray),
     }
 }
 
@@ -60,7 +70,16 @@ fn get_finding(stated: bool, reply: &Reply) -> Finding
         | Reply::Clash
         | Reply::Done
         | Reply::Full
-        | Reply::NoPartition => Finding::Failed(Cause::Stray),
+        | Reply::NoPartition
+        | Reply::Page(_)
+        | Reply::End(_)
+        | Reply::Token(_)
+        | Reply::Planned
+        | Reply::Nothing
+        | Reply::More
+        | Reply::Copied
+        | Reply::Reclaimed(_)
+        | Reply::NoPlan => Finding::Failed(Cause::Stray),
     }
 }
 
@@ -85,7 +104,16 @@ fn peek_finding(stated: bool, reply: &Reply) -> Finding
         | Reply::Clash
         | Reply::Done
         | Reply::Full
-        | Reply::NoPartition => Finding::Failed(Cause::Stray),
+        | Reply::NoPartition
+        | Reply::Page(_)
+        | Reply::End(_)
+        | Reply::Token(_)
+        | Reply::Planned
+        | Reply::Nothing
+        | Reply::More
+        | Reply::Copied
+        | Reply::Reclaimed(_)
+        | Reply::NoPlan => Finding::Failed(Cause::Stray),
     }
 }
 
@@ -104,7 +132,16 @@ fn delete_finding(reply: &Reply) -> Finding
         | Reply::Gone
         | Reply::Blob(_)
         | Reply::Absent
-        | Reply::NoPartition => Finding::Failed(Cause::Stray),
+        | Reply::NoPartition
+        | Reply::Page(_)
+        | Reply::End(_)
+        | Reply::Token(_)
+        | Reply::Planned
+        | Reply::Nothing
+        | Reply::More
+        | Reply::Copied
+        | Reply::Reclaimed(_)
+        | Reply::NoPlan => Finding::Failed(Cause::Stray),
     }
 }
 
@@ -123,6 +160,15 @@ fn other_finding(reply: &Reply) -> Finding
         | Reply::Absent
         | Reply::Done
         | Reply::Full
-        | Reply::NoPartition => Finding::Failed(Cause::Stray),
+        | Reply::NoPartition
+        | Reply::Page(_)
+        | Reply::End(_)
+        | Reply::Token(_)
+        | Reply::Planned
+        | Reply::Nothing
+        | Reply::More
+        | Reply::Copied
+        | Reply::Reclaimed(_)
+        | Reply::NoPlan => Finding::Failed(Cause::Stray),
     }
 }

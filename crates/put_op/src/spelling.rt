@@ -48,7 +48,11 @@ fn blob_in(frame: Frame) -> Option<Blob>
 {
     match frame.body {
         Body::Put(_, blob) => Some(blob),
-        Body::Get(_) | Body::Peek(_) | Body::Delete(_, _) | Body::Fetch(_) | Body::Answer(_) =>
-            None,
+        Body::Get(_)
+        | Body::Peek(_)
+        | Body::Delete(_, _)
+        | Body::Find(_, _)
+        | Body::Fetch(_)
+        | Body::Answer(_) => None,
     }
 }

@@ -35,6 +35,7 @@ frame_clock node correlation (Body.Put id blob) clock = refl
 frame_clock node correlation (Body.Get id) clock = refl
 frame_clock node correlation (Body.Peek id) clock = refl
 frame_clock node correlation (Body.Delete id at) clock = refl
+frame_clock node correlation (Body.Find max token) clock = refl
 frame_clock node correlation (Body.Fetch id) clock = refl
 frame_clock node correlation (Body.Answer reply) clock = refl
 
