@@ -5,7 +5,8 @@ use Rattle.std.specs.Char.{digit_value}
 use Rattle.std.specs.Str.Parse.{digits_value}
 use Rattle.std.proofs.lemmas.Int.Digits.{digits_value_more}
 use Rattle.std.proofs.lemmas.Bool.Decides.{nat_tests}
-use Rattle.run_words.specs.Options.{Text, is_digit, is_numeral, IsNumeral}
+use Rattle.run_words.specs.Options.{is_digit, is_numeral, IsNumeral}
+use Rattle.run_words.specs.Pathnames.{Text}
 use Rattle.run_words.specs.Reading.{number_at}
 
 pub both : (a b : Bool) → (a && b) ≡ true → (a ≡ true) × (b ≡ true)
@@ -30,7 +31,7 @@ pub one_digit_more : (ds : List ℕ) (i : ℕ) → list_all is_digit ds ≡ true
 one_digit_more ds i all lt =
     digits_value_more 10 ds i lt ∙ ap (λ (d : ℕ). digits_value 10 (take i ds) * 10 + d) (digit_value_is (get_or ds i 0) (all_at is_digit ds i all lt)).0
 
-chosen_some : {A : Type 0} (test : Bool) (x y : A) → cond test (Some x) None ≡ Some y → (test ≡ true) × (x ≡ y)
+pub chosen_some : {A : Type 0} (test : Bool) (x y : A) → cond test (Some x) None ≡ Some y → (test ≡ true) × (x ≡ y)
 chosen_some true x y e = (refl, cc)
 chosen_some false x y e = absurd cc
 

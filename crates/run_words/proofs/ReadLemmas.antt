@@ -1,29 +1,52 @@
 -- Options are read one after the other: what is read and what is left stand for the same lists of options throughout.
-use Rattle.std.proofs.Common.{◌≡◌, ◌∙◌, ◌≢◌, ◌⊎◌, ◌↔◌, inl, inr, ℕ, ◌+◌, ◌-◌, ◌<◌, ◌≤◌, arith, Option, Some, None, List, [], ◌∷◌, ◌++◌, refl, sym, ap, ap₂, subst, drop, length, slice_get}
+use Rattle.std.proofs.Common.{◌≡◌, ◌∙◌, ◌≢◌, ◌⊎◌, ◌↔◌, inl, inr, ℕ, ◌+◌, ◌-◌, ◌<◌, ◌≤◌, arith, true, false, cond, Option, Some, None, List, [], ◌∷◌, ◌++◌, refl, sym, ap, ap₂, subst, drop, length, slice_get}
 use Rattle.std.proofs.lemmas.List.{append_assoc, append-nil, at_drop_more, at_drop_all, length-drop}
 use Rattle.std.proofs.lemmas.Option.{slice_get_within, get_or_from_slice_get}
 use Rattle.run_words.specs.declared.options.Name.{Name}
+use Rattle.run_words.specs.declared.options.Value.{Value}
+use Rattle.run_words.specs.declared.options.Value.TheVariants.{Number, Path}
 use Rattle.run_words.specs.declared.options.Given.{Given}
-use Rattle.run_words.specs.Options.{Text, option_word, joined_word, IsNumeral, AreOptions, number_for, AreOnce}
-use Rattle.run_words.specs.Reading.{and_then, number_at, given_at, word_at, option_behind, first_option}
-use Rattle.run_words.proofs.NumberLemmas.{number_takes, number_again}
-use Rattle.run_words.proofs.WordLemmas.{then_some, some_is, pair_is, word_takes, plain_again, joined_again}
+use Rattle.run_words.specs.Options.{option_word, joined_word, takes_path, IsValue, AreOptions, value_for, AreOnce}
+use Rattle.run_words.specs.Pathnames.{Text, is_pathname}
+use Rattle.run_words.specs.Reading.{and_then, number_at, value_at, given_at, word_at, option_behind, first_option}
+use Rattle.run_words.proofs.NumberLemmas.{chosen_some, number_takes, number_again}
+use Rattle.run_words.proofs.WordLemmas.{chosen, then_some, some_is, pair_is, word_takes, plain_again, joined_again}
 use Rattle.run_words.proofs.OnceLemmas.{once_before}
 
 -- one option in front of other words
 abbrev pub IsFirst : List Text → Given → List Text → Type 0
-IsFirst words given rest = (value : Text) × IsNumeral value given.number
+IsFirst words given rest = (value : Text) × IsValue given.name value given.value
     × ((words ≡ option_word given.name ∷ value ∷ rest) ⊎ (words ≡ joined_word given.name value ∷ rest))
 
-given_takes : (name : Name) (value : Text) (given : Given) → given_at name value ≡ Some given → (name ≡ given.name) × IsNumeral value given.number
-given_takes name value given e =
-    let number = then_some (number_at value) (λ number. Some (record { name = name; number = number })) given e in
-    let made : Given = record { name = name; number = number.0 } in
-    let is = some_is made given number.2 in
-    (ap (λ (g : Given). g.name) is, subst (λ (g : Given). IsNumeral value g.number) is (number_takes value number.0 number.1))
+value_takes : (name : Name) (text : Text) (value : Value) → value_at name text ≡ Some value → IsValue name text value
+value_takes name text value e = elim (chosen (takes_path name) (cond (is_pathname text) (Some (Path text)) None) (and_then (number_at text) (λ number. Some (Number number))) (Some value) e) [
+  | inl p ↦ path_takes value p.0 p.1
+  | inr p ↦ number_given value p.0 p.1
+]
+  where
+    path_takes : (value : Value) → takes_path name ≡ true → cond (is_pathname text) (Some (Path text)) None ≡ Some value → IsValue name text value
+    path_takes value takes e =
+        let is = chosen_some (is_pathname text) (Path text) value e in
+        subst (IsValue name text) is.1 (takes, is.0, refl)
 
-given_again : (value : Text) (given : Given) → IsNumeral value given.number → given_at given.name value ≡ Some given
-given_again value given is = rw (number_again value given.number is) refl
+    number_given : (value : Value) → takes_path name ≡ false → and_then (number_at text) (λ number. Some (Number number)) ≡ Some value → IsValue name text value
+    number_given value takes e =
+        let number = then_some (number_at text) (λ number. Some (Number number)) value e in
+        subst (IsValue name text) (some_is (Number number.0) value number.2) (takes, number_takes text number.0 number.1)
+
+value_again : (name : Name) (text : Text) (value : Value) → IsValue name text value → value_at name text ≡ Some value
+value_again name text (Number number) (takes, is) = rw (takes, number_again text number is) refl
+value_again name text (Path path) (takes, is, same) = rw (takes, is) (ap (λ (t : Text). Some (Path t)) same)
+
+given_takes : (name : Name) (text : Text) (given : Given) → given_at name text ≡ Some given → (name ≡ given.name) × IsValue given.name text given.value
+given_takes name text given e =
+    let value = then_some (value_at name text) (λ value. Some (record { name = name; value = value })) given e in
+    let made : Given = record { name = name; value = value.0 } in
+    let is = some_is made given value.2 in
+    (ap (λ (g : Given). g.name) is, subst (λ (g : Given). IsValue g.name text g.value) is (value_takes name text value.0 value.1))
+
+given_again : (text : Text) (given : Given) → IsValue given.name text given.value → given_at given.name text ≡ Some given
+given_again text given is = rw (value_again given.name text given.value is) refl
 
 behind_takes : (word : Text) (name : Name) (value : Option Text) (more rest : List Text) (given : Given) → word_at word ≡ Some (name, value)
     → option_behind name value more ≡ Some (given, rest) → IsFirst (word ∷ more) given rest
@@ -111,7 +134,7 @@ unread before words all none some (first ∷ more, spelled, is, once) =
 
 -- a name that is given once isn't given again
 pub unrepeated : (before : List Given) (words rest : List Text) (given : Given) (all : List Given) → first_option words ≡ Some (given, rest)
-    → Meets before words all → number_for before given.name ≡ None
+    → Meets before words all → value_for before given.name ≡ None
 unrepeated before words rest given all read meets =
     let next = step_on before words rest given all read meets in
     let shape = next.2 ∙ append_assoc before (given ∷ []) next.0 in

@@ -3,7 +3,8 @@ use Rattle.std.proofs.Common.{◌≡◌, ◌∙◌, ℕ, Option, List, [], ◌�
 use Rattle.world_model.specs.declared.shape.Shape.{Shape}
 use Rattle.run_words.specs.declared.options.Given.{Given}
 use Rattle.run_words.specs.declared.settings.Settings.{Settings}
-use Rattle.run_words.specs.Options.{Text, AreOptions}
+use Rattle.run_words.specs.Options.{AreOptions}
+use Rattle.run_words.specs.Pathnames.{Text}
 use Rattle.run_words.specs.Settings.{IsNumber, number_or, majority, GivesShape, GivesSettings, Spells}
 use Rattle.run_words.proofs.ReadLemmas.{one_reading}
 
@@ -36,21 +37,22 @@ one_shape options a b first second =
     let get : a.get ≡ b.get = same_number (ap majority replicas) first.get second.get in
     let delete : a.delete ≡ b.delete = same_number (ap majority replicas) first.delete second.delete in
     let chunk : a.chunk ≡ b.chunk = first.chunk ∙ sym second.chunk in
-    let segment : a.log.segment ≡ b.log.segment = first.segment ∙ sym second.segment in
-    let segments : a.log.segments ≡ b.log.segments = first.segments ∙ sym second.segments in
-    let index : a.log.index ≡ b.log.index = first.index ∙ sym second.index in
+    let segment : a.log.segment ≡ b.log.segment = same_number refl first.log.segment second.log.segment in
+    let segments : a.log.segments ≡ b.log.segments = same_number refl first.log.segments second.log.segments in
+    let index : a.log.index ≡ b.log.index = same_number refl first.log.index second.log.index in
     let same : shape_again a ≡ shape_again b = rw (nodes, replicas, partitions, put, get, delete, chunk, segment, segments, index) refl in
     same
 
-abbrev settings_with : Shape → Option ℕ → ℕ → Settings
-settings_with shape ids seed = record { shape = shape; ids = ids; seed = seed }
+abbrev settings_with : Shape → Option ℕ → ℕ → Text → Settings
+settings_with shape ids seed folder = record { shape = shape; ids = ids; seed = seed; folder = folder }
 
 one_setting : (options : List Given) (a b : Settings) → GivesSettings options a → GivesSettings options b → a ≡ b
 one_setting options a b first second =
     let shape : a.shape ≡ b.shape = one_shape options a.shape b.shape first.shape second.shape in
     let ids : a.ids ≡ b.ids = first.ids ∙ sym second.ids in
     let seed : a.seed ≡ b.seed = same_number refl first.seed second.seed in
-    let same : settings_with a.shape a.ids a.seed ≡ settings_with b.shape b.ids b.seed = rw (shape, ids, seed) refl in
+    let folder : a.folder ≡ b.folder = first.folder ∙ sym second.folder in
+    let same : settings_with a.shape a.ids a.seed a.folder ≡ settings_with b.shape b.ids b.seed b.folder = rw (shape, ids, seed, folder) refl in
     same
 
 pub one_run : (first second : Settings) (words : List Text) → Spells first words → Spells second words → first ≡ second

@@ -5,8 +5,9 @@ use Rattle.std.specs.Str.{bytes_eq}
 use Rattle.std.proofs.lemmas.Slice.Eq.{bytes_eq-Decides}
 use Rattle.std.proofs.lemmas.Bool.Decides.{nat_tests}
 use Rattle.run_words.specs.declared.options.Name.{Name}
-use Rattle.run_words.specs.declared.options.Name.TheVariants.{Nodes, Replicas, Partitions, Put, Get, Delete, Ids, Seed}
-use Rattle.run_words.specs.Options.{Text, text_of, option_word, joined_word}
+use Rattle.run_words.specs.declared.options.Name.TheVariants.{Nodes, Replicas, Partitions, Put, Get, Delete, Segment, Segments, Index, Ids, Folder, Seed}
+use Rattle.run_words.specs.Options.{text_of, option_word, joined_word}
+use Rattle.run_words.specs.Pathnames.{Text}
 use Rattle.run_words.specs.Reading.{and_then, name_at, body_of, is_equals, name_part, value_part, word_at}
 use Rattle.run_words.proofs.NumberLemmas.{both}
 
@@ -40,7 +41,8 @@ link text name other rest more e = elim (chosen (bytes_eq text (text_of other)) 
 name_takes : (text : Text) (name : Name) → name_at text ≡ Some name → text ≡ text_of name
 name_takes text name =
     link text name Nodes _ (link text name Replicas _ (link text name Partitions _ (link text name Put _ (link text name Get _
-    (link text name Delete _ (link text name Ids _ (link text name Seed _ (λ e. absurd cc))))))))
+    (link text name Delete _ (link text name Segment _ (link text name Segments _ (link text name Index _ (link text name Ids _
+    (link text name Folder _ (link text name Seed _ (λ e. absurd cc))))))))))))
 
 body_takes : (word body : Text) → body_of word ≡ Some body → word ≡ 45 ∷ 45 ∷ body
 body_takes [] body e = absurd cc
@@ -96,7 +98,11 @@ plain_again Partitions = refl
 plain_again Put = refl
 plain_again Get = refl
 plain_again Delete = refl
+plain_again Segment = refl
+plain_again Segments = refl
+plain_again Index = refl
 plain_again Ids = refl
+plain_again Folder = refl
 plain_again Seed = refl
 
 pub joined_again : (name : Name) (value : Text) → word_at (joined_word name value) ≡ Some (name, Some value)
@@ -106,7 +112,11 @@ joined_again Partitions value = refl
 joined_again Put value = refl
 joined_again Get value = refl
 joined_again Delete value = refl
+joined_again Segment value = refl
+joined_again Segments value = refl
+joined_again Index value = refl
 joined_again Ids value = refl
+joined_again Folder value = refl
 joined_again Seed value = refl
 
 -- the place of the first `=`, counted from i, divides the body

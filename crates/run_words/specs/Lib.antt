@@ -1,3 +1,4 @@
+pub mod Pathnames
 pub mod Options
 pub mod Reading
 pub mod Settings

@@ -3,9 +3,12 @@ use Rattle.std.specs.Prelude.{ℕ, ◌^◌, List, [], ◌∷◌, Bool, ◌==◌,
 use Rattle.std.specs.Str.{bytes_eq}
 use Rattle.std.specs.Str.Parse.{digits_value}
 use Rattle.run_words.specs.declared.options.Name.{Name}
-use Rattle.run_words.specs.declared.options.Name.TheVariants.{Nodes, Replicas, Partitions, Put, Get, Delete, Ids, Seed}
+use Rattle.run_words.specs.declared.options.Name.TheVariants.{Nodes, Replicas, Partitions, Put, Get, Delete, Segment, Segments, Index, Ids, Folder, Seed}
+use Rattle.run_words.specs.declared.options.Value.{Value}
+use Rattle.run_words.specs.declared.options.Value.TheVariants.{Number, Path}
 use Rattle.run_words.specs.declared.options.Given.{Given}
-use Rattle.run_words.specs.Options.{Text, is_numeral}
+use Rattle.run_words.specs.Pathnames.{Text, is_pathname}
+use Rattle.run_words.specs.Options.{is_numeral, takes_path}
 
 -- the next step, where there was a first
 abbrev pub and_then : {A B : Type 0} → Option A → (A → Option B) → Option B
@@ -25,9 +28,13 @@ name_at text =
     else (if bytes_eq text (codes "put") then Some Put
     else (if bytes_eq text (codes "get") then Some Get
     else (if bytes_eq text (codes "delete") then Some Delete
+    else (if bytes_eq text (codes "segment") then Some Segment
+    else (if bytes_eq text (codes "segments") then Some Segments
+    else (if bytes_eq text (codes "index") then Some Index
     else (if bytes_eq text (codes "ids") then Some Ids
+    else (if bytes_eq text (codes "folder") then Some Folder
     else (if bytes_eq text (codes "seed") then Some Seed
-    else None)))))))
+    else None)))))))))))
 
 -- what stands behind `--`
 abbrev pub body_of : Text → Option Text
@@ -52,8 +59,12 @@ value_part (byte ∷ body) = if is_equals byte then Some body else value_part bo
 abbrev pub word_at : Text → Option (Name × Option Text)
 word_at word = and_then (body_of word) (λ body. and_then (name_at (name_part body)) (λ name. Some (name, value_part body)))
 
+-- the value of the option that a text spells
+abbrev pub value_at : Name → Text → Option Value
+value_at name text = if takes_path name then (if is_pathname text then Some (Path text) else None) else and_then (number_at text) (λ number. Some (Number number))
+
 abbrev pub given_at : Name → Text → Option Given
-given_at name value = and_then (number_at value) (λ number. Some (record { name = name; number = number }))
+given_at name text = and_then (value_at name text) (λ value. Some (record { name = name; value = value }))
 
 -- an option, where its first word is read, and the words behind it
 abbrev pub option_behind : Name → Option Text → List Text → Option (Given × List Text)

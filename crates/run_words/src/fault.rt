@@ -3,7 +3,7 @@
 ghost use Rattle.std.specs.Prelude.{◌≡◌};
 ghost use Rattle.run_words.specs.declared.fault.WordsFault.TheVariants as fault;
 
-use std::alloc::AllocFailed;
+use std::alloc::{AllocError, AllocFailed};
 use thiserror::Error;
 
 /// Why words aren't read.
@@ -21,6 +21,14 @@ impl<T: Drop> From<AllocFailed<T>> for WordsFault {
     ghost from_gives = { λ _ reason. reason ≡ fault.Memory };
 
     fn from(_refused: AllocFailed<T>) -> WordsFault {
+        WordsFault::Memory
+    }
+}
+
+impl From<AllocError> for WordsFault {
+    ghost from_gives = { λ _ reason. reason ≡ fault.Memory };
+
+    fn from(_refused: AllocError) -> WordsFault {
         WordsFault::Memory
     }
 }

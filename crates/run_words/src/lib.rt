@@ -1,7 +1,9 @@
 //! The words of the command line, read into settings.
 //!
 //! The words are `run` and then options, each at most once and in any order: `--name` and its value as the next word, or
-//! `--name=value`. A value is 1 to 20 digits, leading zeros allowed, and lies in its range:
+//! `--name=value`. The value of `--folder` is a pathname: 1 to 255 letters, digits, `.`, `_`, `-` and `/`, the first of them neither
+//! `-` nor `/`, with no part `..` among those that slashes divide it into. Any other value is 1 to 20 digits, leading zeros
+//! allowed, and lies in its range:
 //!
 //! | Option | Least | Most | Default |
 //! |---|---|---|---|
@@ -9,8 +11,14 @@
 //! | `--replicas` | 1 | nodes | the less of 3 and nodes |
 //! | `--partitions` | 1 | 64 | 4 |
 //! | `--put`, `--get`, `--delete` | 1 | replicas | replicas / 2 rounded down, plus 1 |
+//! | `--segment` | 66,736 | 16,777,216 | 1,048,576 |
+//! | `--segments` | 2 | 64 | 8 |
+//! | `--index` | 2 | 4,096 | 256 |
 //! | `--ids` | 0 | 2^64 - 1 | none |
 //! | `--seed` | 0 | 2^64 - 1 | 0 |
+//! | `--folder` | | | `ambry-data` |
+//!
+//! Chunks have 65,536 bytes. A segment has at least 4,096 bytes, and at least 1,200 more than a chunk.
 //!
 //! Any other word makes the words faulty, also `--`, `--help` and `--version`. A default out of range does too.
 #![tactic(auto)]
@@ -18,10 +26,12 @@
 mod fault;
 mod numerals;
 mod options;
+mod pathnames;
 mod settings;
 
 pub use fault::WordsFault;
 pub use numerals::number_of;
+pub use pathnames::Pathname;
 pub use settings::{Settings, read_words, words_laws};
 
 #[cfg(test)]

@@ -67,13 +67,78 @@ fn shapes_are_read(rt: HostRuntime) -> Result<(), Fail> {
 }
 
 #[test]
-fn other_numbers_are_their_defaults(rt: HostRuntime) -> Result<(), Fail> {
-    let shape = read(rt.alloc(), &["run"])?.shape;
-    assert_eq!(rt; shape.chunk, 65_536);
-    assert_eq!(rt; shape.log.segment, 1_048_576);
-    assert_eq!(rt; shape.log.segments, 8);
-    assert_eq!(rt; shape.log.index, 256);
+fn logs_are_read(rt: HostRuntime) -> Result<(), Fail> {
+    let table: [(&[&str], (u32, u16, u16)); 9] = [
+        (&["run"], (1_048_576, 8, 256)),
+        (&["run", "--segment", "66736"], (66_736, 8, 256)),
+        (&["run", "--segment=16777216"], (16_777_216, 8, 256)),
+        (&["run", "--segments", "2"], (1_048_576, 2, 256)),
+        (&["run", "--segments=64"], (1_048_576, 64, 256)),
+        (&["run", "--index", "2"], (1_048_576, 8, 2)),
+        (&["run", "--index=4096"], (1_048_576, 8, 4_096)),
+        (
+            &["run", "--segments=3", "--segment=70000"],
+            (70_000, 3, 256),
+        ),
+        (
+            &[
+                "run",
+                "--index",
+                "004",
+                "--nodes=1",
+                "--segment",
+                "070000",
+                "--segments=5",
+            ],
+            (70_000, 5, 4),
+        ),
+    ];
+    for (words, wanted) in table {
+        let settings = read(rt.alloc(), words)?;
+        let log = settings.shape.log;
+        assert_eq!(rt; (log.segment, log.segments, log.index), wanted);
+        assert_eq!(rt; settings.shape.chunk, 65_536);
+    }
     Ok(())
+}
+
+#[test]
+fn folders_are_read(rt: HostRuntime) -> Result<(), Fail> {
+    let table: [(&[&str], &str); 9] = [
+        (&["run"], "ambry-data"),
+        (&["run", "--folder", "d"], "d"),
+        (&["run", "--folder=d"], "d"),
+        (&["run", "--folder", "a..b"], "a..b"),
+        (&["run", "--folder=.../..a/b.."], ".../..a/b.."),
+        (&["run", "--folder", "./a//b/"], "./a//b/"),
+        (&["run", "--folder=_A.z-0/-9"], "_A.z-0/-9"),
+        (&["run", "--folder", "12", "--seed=12"], "12"),
+        (&["run", "--nodes=1", "--folder", "folder"], "folder"),
+    ];
+    for (words, folder) in table {
+        let settings = read(rt.alloc(), words)?;
+        assert_eq!(rt; settings.folder.as_str(), folder);
+    }
+    Ok(())
+}
+
+#[test]
+fn folders_have_255_bytes_at_most(rt: HostRuntime) -> Result<(), Fail> {
+    let longest = [b'a'; 255];
+    let Ok(longest) = str::from_utf8(&longest) else {
+        return Err(Fail::new("no text"));
+    };
+    let settings = read(rt.alloc(), &["run", "--folder", longest])?;
+    assert_eq!(rt; settings.folder.as_str(), longest);
+    let longer = [b'a'; 256];
+    let Ok(longer) = str::from_utf8(&longer) else {
+        return Err(Fail::new("no text"));
+    };
+    match read(rt.alloc(), &["run", "--folder", longer]) {
+        Err(WordsFault::Usage) => Ok(()),
+        Err(WordsFault::Memory) => Err(Fail::new("memory")),
+        Ok(_) => Err(Fail::new("read")),
+    }
 }
 
 #[test]
@@ -92,6 +157,15 @@ fn ids_and_seeds_are_read(rt: HostRuntime) -> Result<(), Fail> {
         assert_eq!(rt; settings.seed, seed);
     }
     Ok(())
+}
+
+/// Reads words that are outside the grammar.
+fn refused(alloc: Global, words: &[&str]) -> Result<(), Fail> {
+    match read(alloc, words) {
+        Err(WordsFault::Usage) => Ok(()),
+        Err(WordsFault::Memory) => Err(Fail::new("memory")),
+        Ok(_) => Err(Fail::new("read")),
+    }
 }
 
 #[test]
@@ -144,11 +218,56 @@ fn words_outside_the_grammar_are_refused(rt: HostRuntime) -> Result<(), Fail> {
         &["run", "--seed", "99999999999999999999"],
     ];
     for words in table {
-        match read(rt.alloc(), words) {
-            Err(WordsFault::Usage) => {}
-            Err(WordsFault::Memory) => return Err(Fail::new("memory")),
-            Ok(_) => return Err(Fail::new("read")),
-        }
+        refused(rt.alloc(), words)?;
+    }
+    Ok(())
+}
+
+#[test]
+fn logs_outside_their_ranges_are_refused(rt: HostRuntime) -> Result<(), Fail> {
+    let table: [&[&str]; 13] = [
+        &["run", "--segment", "66735"],
+        &["run", "--segment=16777217"],
+        &["run", "--segment", "0"],
+        &["run", "--segment", "a"],
+        &["run", "--segment=70000", "--segment=70000"],
+        &["run", "--segments", "1"],
+        &["run", "--segments=65"],
+        &["run", "--segments", "65538"],
+        &["run", "--segments"],
+        &["run", "--index", "1"],
+        &["run", "--index=4097"],
+        &["run", "--index", "65538"],
+        &["run", "--chunk", "2048"],
+    ];
+    for words in table {
+        refused(rt.alloc(), words)?;
+    }
+    Ok(())
+}
+
+#[test]
+fn folders_outside_the_grammar_are_refused(rt: HostRuntime) -> Result<(), Fail> {
+    let table: [&[&str]; 16] = [
+        &["run", "--folder"],
+        &["run", "--folder="],
+        &["run", "--folder", ""],
+        &["run", "--folder", ".."],
+        &["run", "--folder=../a"],
+        &["run", "--folder", "a/.."],
+        &["run", "--folder=a/../b"],
+        &["run", "--folder", "/a"],
+        &["run", "--folder=/"],
+        &["run", "--folder", "-a"],
+        &["run", "--folder=-"],
+        &["run", "--folder", "a b"],
+        &["run", "--folder=a=b"],
+        &["run", "--folder", "\u{e9}"],
+        &["run", "--folder", "a", "--folder=a"],
+        &["run", "--folder=a", "--nodes=1", "--folder", "b"],
+    ];
+    for words in table {
+        refused(rt.alloc(), words)?;
     }
     Ok(())
 }
