@@ -5,3 +5,9 @@ pub mod Taking
 pub mod Standing
 pub mod Walking
 pub mod Refusing
+pub mod Placing
+pub mod Halting
+pub mod Asking
+pub mod Setting
+pub mod Starting
+pub mod Beginning

@@ -12,7 +12,7 @@ use Rattle.world_model.specs.declared.shape.Shape.{Shape}
 use Rattle.lab_nodes.specs.declared.places.Which.{Which}
 use Rattle.lab_nodes.specs.Holding.{HoldsPlace, settings_of, settled}
 use Rattle.lab_nodes.specs.Spots.{GoesHome, HaltsSpot, IsCause, OpensSpot, RestStays, Spot, StartsSpot, StaysClosed, is_meant, node_at, partition_at, place_of, slot_at, spot_at, stands_on}
-use Rattle.lab_nodes.specs.Starting.{AreEmpty, CanOpen, FirstChange, HaltsSlot, IsFirst, OpensTo, StartsSlot, StopsAt, is_due}
+use Rattle.lab_nodes.specs.Starting.{AreEmpty, CanOpen, FirstChange, HaltsSlot, IsDueAt, IsFirst, OpensTo, StartsSlot, StopsAt, is_due}
 use Rattle.lab_nodes.proofs.Holding.{either_settled, opened_settles}
 use Rattle.lab_nodes.proofs.Walking.{slot_past}
 use Rattle.std.specs.Prelude.{IsSome}
@@ -103,6 +103,14 @@ pub can_open : {D : Type 0} (tells : Type 0) (content : D → Content) (size : D
 can_open tells content size settings folder false old new t is starts = absurd (cc is)
 can_open tells content size settings folder true old new t is opens = record { cells = cell_in opens.replica.cells; end = opens.replica.log.table.end; stands = opens.opened.stood t }
 
+-- the refusal of a place that was to be opened
+pub due_at : (which : Which) (shape : Shape) (place : ℕ) (refusal : Refusal) → 1 ≤ shape.partitions → is_due which shape place ≡ true → refusal.node ≡ node_at shape.partitions place → refusal.partition ≡ partition_at shape.partitions place → IsDueAt which shape refusal
+due_at which shape place refusal some due node partition =
+    let again : place_of shape.partitions refusal.node refusal.partition ≡ place =
+    ap (λ (n : ℕ). place_of shape.partitions n refusal.partition) node ∙ ap (λ (p : ℕ). place_of shape.partitions (node_at shape.partitions place) p) partition ∙ place_again shape.partitions place in
+    let below : place % shape.partitions < shape.partitions = omega (arith, some) in
+    record { due = subst (λ (k : ℕ). is_due which shape k ≡ true) (sym again) due; node = omega (arith, node); partition = omega (arith, partition, below) }
+
 -- the refusal of a place is that of the first one, where those before it were opened
 pub first_is : {D : Type 0} (tells : Type 0) (content : D → Content) (size : D → ℕ) (which : Which) (shape : Shape) (folder : List ℕ) (home : Home D) (place : ℕ) (refusal : Refusal) → 1 ≤ shape.partitions → is_due which shape place ≡ true
     → refusal.node ≡ node_at shape.partitions place → refusal.partition ≡ partition_at shape.partitions place → IsCause tells content size (settings_of shape) (home folder (node_at shape.partitions place) (partition_at shape.partitions place)) refusal.what
@@ -111,11 +119,11 @@ pub first_is : {D : Type 0} (tells : Type 0) (content : D → Content) (size : D
 first_is {D} tells content size which shape folder home place refusal some due node partition cause slots out new before =
     let again : place_of shape.partitions refusal.node refusal.partition ≡ place =
     ap (λ (n : ℕ). place_of shape.partitions n refusal.partition) node ∙ ap (λ (p : ℕ). place_of shape.partitions (node_at shape.partitions place) p) partition ∙ place_again shape.partitions place in
-    let below : place % shape.partitions < shape.partitions = omega (arith, some) in
+    let at : IsDueAt which shape refusal = due_at which shape place refusal some due node partition in
     record {
-      due = subst (λ (k : ℕ). is_due which shape k ≡ true) (sym again) due;
-      node = omega (arith, node);
-      partition = omega (arith, partition, below);
+      due = at.due;
+      node = at.node;
+      partition = at.partition;
       cause = subst (λ (h : Option D). IsCause tells content size (settings_of shape) h refusal.what)
           (ap (λ (n : ℕ). home folder n (partition_at shape.partitions place)) (sym node) ∙ ap (λ (p : ℕ). home folder refusal.node p) (sym partition)) cause;
       earlier = λ t k less is. can_open tells content size (settings_of shape) folder (is_due which shape k) (spot_at shape.partitions folder slots home out k) (new k) t is (before k (subst (λ (q : ℕ). k < q) again less));

@@ -1,5 +1,5 @@
 -- Going over places one after the other.
-use Rattle.std.proofs.Common.{◌≡◌, ◌≢◌, ◌⊎◌, inl, inr, ⊎_elim, ℕ, zero, suc, ◌+◌, ◌*◌, ◌/◌, ◌%◌, ◌<◌, ◌≤◌, arith, Bool, true, ◌&&◌, List, [], ◌∷◌, length, slice_set, Option, None, refl, sym, ◌∙◌, ap, subst}
+use Rattle.std.proofs.Common.{◌≡◌, ◌≢◌, ◌⊎◌, inl, inr, ⊎_elim, ℕ, zero, suc, ◌+◌, ◌*◌, ◌/◌, ◌%◌, ◌<◌, ◌≤◌, arith, Bool, true, ◌&&◌, List, [], ◌∷◌, ◌++◌, length, slice_set, Option, None, refl, sym, ◌∙◌, ap, subst}
 use Rattle.std.proofs.lemmas.Bool.{cases_lt}
 use Rattle.std.proofs.lemmas.Nat.{div-add-mod'}
 use Rattle.std.proofs.lemmas.Option.{slice_get-get_or, slice_get_past}
@@ -56,6 +56,13 @@ module _ {D : Type 0} where
 
   pub slot_past : (slots : List (Option (ReplicaState D))) (place : ℕ) → length slots ≤ place → slot_at slots place ≡ None
   slot_past slots place past = ap slot_in (slice_get_past slots place past)
+
+  -- one empty slot more
+  pub none_on : (slots : List (Option (ReplicaState D))) → ((k : ℕ) → slot_at slots k ≡ None) → (k : ℕ) → slot_at (slots ++ None ∷ []) k ≡ None
+  none_on [] none zero = refl
+  none_on [] none (suc k) = refl
+  none_on (y ∷ ys) none zero = none zero
+  none_on (y ∷ ys) none (suc k) = none_on ys (λ i. none (suc i)) k
 
   -- a step at one place leaves the others
   pub other_spot : (partitions : ℕ) (folder : List ℕ) (slots : List (Option (ReplicaState D))) (place : ℕ) (x : Option (ReplicaState D)) (home new_home : Home D) (out new_out : Out) → OthersStay folder (node_at partitions place) (partition_at partitions place) home out new_home new_out

@@ -2,3 +2,4 @@ pub mod Holding
 pub mod Faults
 pub mod Spots
 pub mod Starting
+pub mod Nodes

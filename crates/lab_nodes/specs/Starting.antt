@@ -42,6 +42,12 @@ abbrev pub StartsSlot : {D : Type 0} → Bool → LogSettings → Option (Replic
 StartsSlot false settings old new = new ≡ old
 StartsSlot true settings old new = IsFresh settings new
 
+-- The refusal names a place that was to be opened.
+pub record IsDueAt (which : Which) (shape : Shape) (refusal : Refusal) : Type 0 where
+  pub due : is_due which shape (place_of shape.partitions refusal.node refusal.partition) ≡ true
+  pub node : 1 ≤ refusal.node
+  pub partition : refusal.partition < shape.partitions
+
 -- What disks of a type tell, and their size.
 module _ {D : Type 0} (tells : Type 0) (content : D → Content) (size : D → ℕ) where
   -- the logs of the disks that are to be opened are tidy

@@ -3,11 +3,13 @@
 #![tactic(auto)]
 
 mod fault;
+mod nodes;
 mod opening;
 mod places;
 mod spots;
 
 pub use fault::NodesFault;
+pub use nodes::LabNodes;
 pub use places::Which;
 pub use spots::{halt, start};
 

@@ -51,7 +51,6 @@ pub(crate) fn open_replica<B: Bays>(
     settings: LogSettings,
 ) -> Result<Replica<B::Disk>, NodesFault>
     requires ranges { AreInRange settings }
-    requires known { B.Disk.tells → B.tells }
     requires tidy { B.Disk.tells → (disk : B.Disk) → B.home bays.old folder.now node partition ≡ Some disk → HasTidy settings (B.Disk.content disk).seen }
 
     ensures opened { IfOk result (λ replica. IsOpened B.Disk.content B.Disk.tells settings (B.home bays.old folder.now node partition) replica) }

@@ -3,7 +3,7 @@
 ghost use Rattle.std.specs.Prelude.{◌≡◌, ◌<◌, ◌≤◌, ℕ, List, Some, None, true, false, IsSome, OnOk, OnErr, IfErr, IsErrOf, length};
 ghost use Rattle.disk_core.specs.Homes.{OthersStay};
 ghost use Rattle.lab_nodes.specs.Spots.{AreOut, HaltsSpot, HasFailed, IsCause, RestStays, StartsSpot, StaysClosed, is_meant, node_at, partition_at, slot_at, spot_at};
-ghost use Rattle.lab_nodes.specs.Starting.{AreEmpty, AreTidyAt, FirstChange, HaltsSlot, IsFirst, OpensTo, StartsSlot, StopsAt, is_due};
+ghost use Rattle.lab_nodes.specs.Starting.{AreEmpty, AreTidyAt, FirstChange, HaltsSlot, IsDueAt, IsFirst, OpensTo, StartsSlot, StopsAt, is_due};
 ghost use Rattle.lab_nodes.specs.Holding.{settings_of};
 ghost use Rattle.replica_core.specs.Maps.{HasTidy};
 ghost use Rattle.world_model.specs.Shape.{IsShape};
@@ -95,7 +95,6 @@ where
     B::Disk: Drop,
     requires shape { IsShape shape.now }
     requires place { place < 1024 }
-    requires known { B.Disk.tells → B.tells }
     requires tidy { B.Disk.tells → is_due which shape.now place ≡ true → (disk : B.Disk) → B.home bays.old folder.now (node_at shape.now.partitions place) (partition_at shape.now.partitions place) ≡ Some disk → HasTidy (settings_of shape.now) (B.Disk.content disk).seen }
     requires empty { is_meant which (node_at shape.now.partitions place) ≡ true → slot.old ≡ None }
 
@@ -139,7 +138,6 @@ where
     B::Disk: Drop,
     requires shape { IsShape shape.now }
     requires few { length slots.old.items ≤ 1024 }
-    requires known { B.Disk.tells → B.tells }
     requires tidy { B.Disk.tells → AreTidyAt B.Disk.tells B.Disk.content B.Disk.size which shape.now folder.now (B.home bays.old) }
     requires empty { AreEmpty which shape.now.partitions slots.old.items }
 
@@ -153,6 +151,7 @@ where
         (spot_at shape.now.partitions folder.now slots.old.items (B.home bays.old) (B.out bays.old))
         (spot_at shape.now.partitions folder.now slots.new.items (B.home bays.new) (B.out bays.new)))) }
     ensures rest { B.tells → RestStays shape.now.partitions folder.now (B.home bays.old) (B.out bays.old) (B.home bays.new) (B.out bays.new) }
+    ensures refused_place { (refusal : Refusal) → IsErrOf result (NodesFault.Refused refusal) → IsDueAt which shape.now refusal }
     ensures refused { (refusal : Refusal) → IsErrOf result (NodesFault.Refused refusal) → B.tells → IsFirst B.Disk.tells B.Disk.content B.Disk.size which shape.now folder.now (B.home bays.old) refusal }
     ensures failed { IsErrOf result NodesFault.Failed → HasFailed B.Disk.faults (B.faults bays.old) (B.faults bays.new) }
     ensures later { B.faults bays.old ≤ B.faults bays.new }
@@ -189,7 +188,6 @@ where
     B::Disk: Drop,
     requires shape { IsShape shape.now }
     requires few { length slots.old.items ≤ 1024 }
-    requires known { B.Disk.tells → B.tells }
     requires tidy { B.Disk.tells → AreTidyAt B.Disk.tells B.Disk.content B.Disk.size which shape.now folder.now (B.home bays.old) }
     requires empty { AreEmpty which shape.now.partitions slots.old.items }
     requires out { B.tells → AreOut shape.now.partitions folder.now slots.old.items (B.out bays.old) }
@@ -204,6 +202,7 @@ where
         (spot_at shape.now.partitions folder.now slots.old.items (B.home bays.old) (B.out bays.old) place)
         (spot_at shape.now.partitions folder.now slots.new.items (B.home bays.new) (B.out bays.new) place)) }
     ensures rest { B.tells → RestStays shape.now.partitions folder.now (B.home bays.old) (B.out bays.old) (B.home bays.new) (B.out bays.new) }
+    ensures refused_place { (refusal : Refusal) → IsErrOf result (NodesFault.Refused refusal) → IsDueAt which shape.now refusal }
     ensures refused { (refusal : Refusal) → IsErrOf result (NodesFault.Refused refusal) → B.tells → IsFirst B.Disk.tells B.Disk.content B.Disk.size which shape.now folder.now (B.home bays.old) refusal }
     ensures failed { IsErrOf result NodesFault.Failed → HasFailed B.Disk.faults (B.faults bays.old) (B.faults bays.new) }
     ensures later { B.faults bays.old ≤ B.faults bays.new }

@@ -1,14 +1,17 @@
 //! Replicas over disks in memory. A segment has 4,096 bytes.
 
-ghost use Rattle.std.specs.Prelude.{◌≡◌, ◌<◌, None, ℕ, IfOk, IfSome, IsErrOf, length};
+ghost use Rattle.std.specs.Prelude.{◌≡◌, ◌<◌, None, false, ℕ, IfOk, IfSome, IsErrOf, IsSome, length};
+ghost use Rattle.blob_id.specs.Blob.{IsBlob};
 ghost use Rattle.disk_core.specs.MemDisk.{size_of};
+ghost use Rattle.lab_nodes.specs.Nodes.{is_up};
 ghost use Rattle.lab_nodes.specs.Spots.{slot_at};
 ghost use Rattle.lab_nodes.specs.Starting.{AreEmpty};
 ghost use Rattle.lab_nodes.specs.declared.places.Which.TheVariants.{Node};
 ghost use Rattle.world_model.specs.Shape.{IsShape};
 
 use super::*;
-use blob_id::Memory;
+use blob_id::{Blob, BlobId, Bytes, Kind, Memory};
+use cell_model::{Ask, Reply};
 use disk_core::{BayFault, Bays, Disk, MemDisk, Pick};
 use outside::Failed;
 use replica_core::Replica;
@@ -177,6 +180,8 @@ impl Bays for QuietBays {
         }
     }
 
+    ghost known = { λ t. t };
+
     ghost same_self = { λ a. tt };
 
     ghost same_on = { λ a b c p q. tt };
@@ -334,5 +339,83 @@ fn an_opening_that_fails_leaves_each_disk_at_home(rt: HostRuntime) -> Result<(),
     let started = start(alloc, &SHAPE, "lab", &mut bays, &mut slots, Which::All);
     assert_eq!(rt; started, Ok(()));
     assert!(rt; are_filled(&slots, &DUE));
+    Ok(())
+}
+
+/// A blob of two bytes.
+fn small_blob(alloc: Global) -> Result<Blob, Memory>
+    ensures { IfOk result (λ blob. IsBlob blob) }
+{
+    let body = vec![in alloc; 7u8; 2]?;
+    Ok(Blob {
+        created: 5,
+        ctype: Bytes::new(alloc),
+        meta: Bytes::new(alloc),
+        body: Bytes::from_vec(body),
+    })
+}
+
+/// What a reply says.
+#[derive(Clone, Copy, Debug, PartialEq)]
+enum Answer {
+    Stored,
+    Blob(usize),
+    NoPartition,
+    Other,
+}
+
+fn answer_of(reply: &Reply) -> Answer {
+    match reply {
+        Reply::Stored => Answer::Stored,
+        Reply::Blob(blob) => Answer::Blob(blob.body.len()),
+        Reply::NoPartition => Answer::NoPartition,
+        _ => Answer::Other,
+    }
+}
+
+/// Open nodes over these bays.
+fn open_nodes(rt: &impl Abort, alloc: Global, bays: QuietBays) -> LabNodes<QuietBays>
+    ensures { IsSome result.shape }
+{
+    let mut nodes = LabNodes::new(alloc, bays);
+    match nodes.open(&SHAPE, "lab") {
+        Ok(()) => nodes,
+        Err(_) => panic!(rt; "not opened"),
+    }
+}
+
+/// What the replica of partition 1 on node 2 holds.
+fn held(nodes: &mut LabNodes<QuietBays>, id: BlobId) -> Answer
+    ensures shape { nodes.new.shape ≡ nodes.old.shape }
+    ensures up { (n p : ℕ) → is_up nodes.new n p ≡ is_up nodes.old n p }
+{
+    answer_of(&nodes.ask(2, 1, Ask::Get { id }))
+}
+
+/// Stops node 2, and says what its replica answers then.
+fn held_after_stop(nodes: &mut LabNodes<QuietBays>, id: BlobId) -> Answer
+    requires open { IsSome nodes.old.shape }
+    ensures shape { nodes.new.shape ≡ nodes.old.shape }
+    ensures stopped { (p : ℕ) → is_up nodes.new 2 p ≡ false }
+{
+    nodes.stop(2);
+    held(nodes, id)
+}
+
+#[test]
+fn a_blob_stays_over_a_stop_and_a_close(rt: HostRuntime) -> Result<(), Fail> {
+    let alloc = rt.alloc();
+    let mut nodes = open_nodes(&rt, alloc, QuietBays::new(alloc, 0));
+    let id = BlobId::draw(Kind::Simple, 0, 0, 1);
+    let blob = small_blob(alloc)?;
+    let put = nodes.ask(2, 1, Ask::Put { id, blob });
+    assert_eq!(rt; answer_of(&put), Answer::Stored);
+    assert_eq!(rt; held_after_stop(&mut nodes, id), Answer::NoPartition);
+    let restarted = nodes.restart(2);
+    assert_eq!(rt; restarted, Ok(()));
+    assert_eq!(rt; held(&mut nodes, id), Answer::Blob(2));
+    nodes.close();
+    let mut nodes = open_nodes(&rt, alloc, nodes.give_back());
+    assert_eq!(rt; held(&mut nodes, id), Answer::Blob(2));
     Ok(())
 }

@@ -15,12 +15,12 @@ takes g c t = subst (λ (n : ℕ). TakesOut g.B.Disk.Disk.tells g.B.Disk.Disk.co
     c.disk_size-size.ensures (c.in-Ok.ensures.taken t)
 
 seen : (g : _) (c : In-Ok g) → g.B.Disk.Disk.tells → (g.B.Disk.Disk.content c.in-Ok.disk).seen ≡ found g.B.Disk.Disk.content c.args.settings (g.B.Bays.home c.args.bays.now c.args.folder.now c.args.node c.args.partition)
-seen g c t = taken_found g.B.Disk.Disk.tells g.B.Disk.Disk.content g.B.Disk.Disk.size c.args.settings c.args.folder.now c.args.node c.args.partition c.in-Ok.disk _ _ _ _ (takes g c (c.requires.known t)) t
+seen g c t = taken_found g.B.Disk.Disk.tells g.B.Disk.Disk.content g.B.Disk.Disk.size c.args.settings c.args.folder.now c.args.node c.args.partition c.in-Ok.disk _ _ _ _ (takes g c (g.met.B.Bays.known t)) t
 
 pub open-requires-2-clause-tidy : goal.open-requires-2-clause-tidy
 open-requires-2-clause-tidy g c = λ t.
     let it = (goal.at.open-requires-2-clause-tidy g c).In-Ok in
-    taken_tidy g.B.Disk.Disk.tells g.B.Disk.Disk.content g.B.Disk.Disk.size c.args.settings c.args.folder.now c.args.node c.args.partition c.in-Ok.disk _ _ _ _ (takes g it (c.requires.known t)) t (c.requires.tidy t)
+    taken_tidy g.B.Disk.Disk.tells g.B.Disk.Disk.content g.B.Disk.Disk.size c.args.settings c.args.folder.now c.args.node c.args.partition c.in-Ok.disk _ _ _ _ (takes g it (g.met.B.Bays.known t)) t (c.requires.tidy t)
 
 pub returns-in-Ok-open-clause-opened : goal.returns-in-Ok-open-clause-opened
 returns-in-Ok-open-clause-opened g c =

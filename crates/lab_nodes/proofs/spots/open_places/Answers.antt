@@ -5,7 +5,7 @@ use Rattle.replica_core.specs.State.{ReplicaState}
 use Rattle.lab_nodes.specs.Holding.{settings_of}
 use Rattle.lab_nodes.specs.Spots.{IsCause, Spot, StartsSpot, StaysClosed, node_at, partition_at, slot_at, spot_at}
 use Rattle.lab_nodes.specs.Starting.{StartsSlot, is_due}
-use Rattle.lab_nodes.proofs.Refusing.{first_is}
+use Rattle.lab_nodes.proofs.Refusing.{due_at, first_is}
 use Rattle.lab_nodes.proofs.Walking.{other_spot, rest_on, slot_found, slot_set, slot_set_other, walk_on}
 use Rattle.lab_nodes.proofs.spots.open_places.Goals as goal
 use Rattle.lab_nodes.proofs.spots.open_places.Goals.{In-loop-place}
@@ -21,7 +21,7 @@ still g c t = (c.loop-place.invariant.spots t c.loop-place.place).1 (omega arith
 pub start_place-requires-clause-tidy : goal.start_place-requires-clause-tidy
 start_place-requires-clause-tidy g c = λ t due disk is.
     let it = (goal.at.start_place-requires-clause-tidy g c).In-loop-place in
-    c.requires.tidy t c.loop-place.place due disk (sym (ap (λ (s : Spot g.row.B-Disk.Denot). s.home) (still g it (c.requires.known t))) ∙ is)
+    c.requires.tidy t c.loop-place.place due disk (sym (ap (λ (s : Spot g.row.B-Disk.Denot). s.home) (still g it (g.met.B.Bays.known t))) ∙ is)
 
 pub start_place-requires-clause-empty : goal.start_place-requires-clause-empty
 start_place-requires-clause-empty g c = λ meant.
@@ -120,3 +120,8 @@ returns-in-Err-clause-refused g c = λ refusal is t.
     (subst (λ (h : Option g.row.B-Disk.Denot). IsCause g.B.Disk.Disk.tells g.B.Disk.Disk.content g.B.Disk.Disk.size (settings_of shape) h refusal.what) (ap (λ (s : Spot g.row.B-Disk.Denot). s.home) (still g it t)) (why.2 t))
     c.args.slots.now.items (g.B.Bays.out c.args.bays.now) (spot_at shape.partitions c.args.folder.now c.loop-place.slots.items (g.B.Bays.home c.loop-place.bays) (g.B.Bays.out c.loop-place.bays))
     (λ k less. (c.loop-place.invariant.spots t k).0 less)
+
+pub returns-in-Err-clause-refused_place : goal.returns-in-Err-clause-refused_place
+returns-in-Err-clause-refused_place g c = λ refusal is.
+    let why = c.start_place.ensures.refused refusal (c.in-Err.is ∙ is) in
+    due_at c.args.which c.args.shape.now c.loop-place.place refusal c.requires.shape.some_partitions c.in-Err.ensures.due why.0 why.1
