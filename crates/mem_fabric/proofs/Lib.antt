@@ -1,9 +1,9 @@
 pub mod Questions
-pub mod Places
-pub mod Askings
 pub mod Worlds
 pub mod Sounds
 pub mod Stops
-pub mod Acts
+pub mod Making
+pub mod Goes
+pub mod Answering
 pub mod Playing
 pub mod TestLemmas

@@ -1,19 +1,16 @@
 -- What a call does, as acts, and what acts from the beginning say of the calls told.
-use Rattle.std.proofs.Common.{◌≡◌, ℕ, zero, suc, nat_lt, ◌==◌, Bool, true, false, ◌&&◌, ◌||◌, not, cond, List, [], ◌∷◌, ◌++◌, length, Option, Some, None, Result, Ok, Err, refl, sym, ap, ◌∙◌, subst, append-nil}
+use Rattle.std.proofs.Common.{◌≡◌, ℕ, suc, ◌==◌, Bool, true, false, ◌&&◌, ◌||◌, not, cond, List, [], ◌∷◌, ◌++◌, length, Option, Some, None, Result, Ok, Err, refl, sym, ap, ◌∙◌, subst, append-nil}
 use Rattle.std.specs.Prelude.{IsSome, OnOk, OnErr}
-use Rattle.blob_id.specs.declared.id.BlobId.{BlobId}
-use Rattle.cell_model.specs.declared.cell.Cell.TheVariants.{Absent}
 use Rattle.blob_id.specs.declared.memory.Memory.{Memory}
-use Rattle.mem_fabric.specs.Network.{Network, nothing, nothing_held, is_stopped, after_open, after_steps, after_send, after_sent, after_order, answer_to, after_given, IsOldest, Does, Obeys}
-use Rattle.mem_fabric.specs.Slots.{cell_held}
-use Rattle.mem_fabric.specs.Standing.{none_standing, cells_of}
+use Rattle.mem_fabric.specs.Network.{Network, nothing, nothing_held, is_stopped, after_open, after_steps, after_send, after_sent, after_order, MayRestart, MayBeTold, after_given, IsOldest, Does, Obeys}
 use Rattle.mem_fabric.specs.Past.{calls_of, order_steps}
 use Rattle.mem_fabric.specs.Played.{Act, Opens, Sends, Orders, Gives, Moves, Fails, acted, all_acted, MayAct, AllMay, moves_of, Plays, Falls, AtMostOne, IsPlayed}
 use Rattle.mem_fabric.specs.PlayedLaws.{plays_on}
-use Rattle.mem_fabric.specs.Sound.{State, AllShow, IsSound, RunsFrom, fresh_state, network_of, told_world}
+use Rattle.mem_fabric.specs.Sound.{State, AllShow, IsSound, fresh_state, network_of, told_world}
 use Rattle.mem_fabric.proofs.Worlds.{waits_alike}
 use Rattle.world_model.specs.declared.moves.Move.{Move}
 use Rattle.world_model.specs.declared.order.Order.{Order}
+use Rattle.world_model.specs.declared.order.PullCause.{PullCause}
 use Rattle.world_model.specs.declared.order.Told.{Told}
 use Rattle.world_model.specs.declared.shape.Shape.{Shape}
 use Rattle.world_model.specs.declared.step.Called.{Called}
@@ -49,7 +46,7 @@ has_order false shape (Order.Level p a b) h = absurd h
 
 pub plays_order : (given : List Move) (n n' : Network) (order : Order) (answer : Told) → TakesOrder n.shape order → Obeys n order answer n' → Plays given n given n'
 plays_order given n n' order answer takes obeys =
-    (Orders order answer ∷ [], tt, record { moves = sym (append-nil given); may = (tt, (takes, obeys.answer_is)); network = obeys.network })
+    (Orders order answer ∷ [], tt, record { moves = sym (append-nil given); may = (tt, (takes, obeys.may)); network = obeys.network })
 
 -- ---- what an order tells
 
@@ -75,62 +72,54 @@ stopped_in (Withheld other frame ∷ before) node = stopped_in before node
 stopped_in (Decided operation outcome ∷ before) node = stopped_in before node
 
 -- by the steps of an order it came to its answer
-comes_to : (n : Network) (order : Order) → TakesOrder n.shape order → ComesTo order (answer_to n order) (order_steps order (answer_to n order)) (told n.calls)
-comes_to n (Order.Stop node) takes = go (is_stopped n node) (sym (stopped_in (told n.calls) node))
+comes_to : (n : Network) (order : Order) (answer : Told) → MayBeTold n order answer → ComesTo order answer (order_steps order answer) (told n.calls)
+comes_to n (Order.Stop node) answer may = subst (λ a. ComesTo (Order.Stop node) a (order_steps (Order.Stop node) a) (told n.calls)) (sym may) (go (is_stopped n node) (sym (stopped_in (told n.calls) node)))
   where
     go : (b : Bool) → is_stopped_by node (told n.calls) ≡ b → ComesTo (Order.Stop node) (cond b Told.Already Told.Done) (order_steps (Order.Stop node) (cond b Told.Already Told.Done)) (told n.calls)
     go true e = (refl, e)
     go false e = (refl, e)
-comes_to n (Order.Restart node) takes = go (is_stopped n node) (sym (stopped_in (told n.calls) node))
+comes_to n (Order.Restart node) answer may = go (is_stopped n node) (sym (stopped_in (told n.calls) node)) answer may
   where
-    go : (b : Bool) → is_stopped_by node (told n.calls) ≡ b → ComesTo (Order.Restart node) (cond b Told.Done Told.Already) (order_steps (Order.Restart node) (cond b Told.Done Told.Already)) (told n.calls)
-    go true e = (([], refl), e)
-    go false e = (refl, e)
-comes_to n (Order.Pull a b p) takes = absurd takes
-comes_to n (Order.Compact a p) takes = absurd takes
-comes_to n (Order.Level p a b) takes = absurd takes
+    go : (b : Bool) → is_stopped_by node (told n.calls) ≡ b → (told_so : Told) → MayRestart b node told_so → ComesTo (Order.Restart node) told_so (order_steps (Order.Restart node) told_so) (told n.calls)
+    go false e told_so may = subst (λ a. ComesTo (Order.Restart node) a (order_steps (Order.Restart node) a) (told n.calls)) (sym may) (refl, e)
+    go true e Told.Done may = (([], refl), e)
+    go true e (Told.Refused refusal) may = (refl, may, e)
+    go true e (Told.Stuck PullCause.Fault) may = (refl, e)
+    go true e (Told.Stuck PullCause.Memory) may = (refl, e)
+    go true e _ may = absurd may
+comes_to n (Order.Pull a b p) answer may = absurd may
+comes_to n (Order.Compact a p) answer may = absurd may
+comes_to n (Order.Level p a b) answer may = absurd may
 
 -- an order tells its steps, as one call
-calls_on : (n : Network) (order : Order) → TakesOrder n.shape order → (after_order n order (answer_to n order)).calls ≡ record { steps = order_steps order (answer_to n order); given = None } ∷ n.calls
-calls_on n (Order.Stop node) takes = go (is_stopped n node)
-  where
-    go : (b : Bool) → (after_order n (Order.Stop node) (cond b Told.Already Told.Done)).calls ≡ record { steps = order_steps (Order.Stop node) (cond b Told.Already Told.Done); given = None } ∷ n.calls
-    go true = refl
-    go false = refl
-calls_on n (Order.Restart node) takes = go (is_stopped n node)
-  where
-    go : (b : Bool) → (after_order n (Order.Restart node) (cond b Told.Done Told.Already)).calls ≡ record { steps = order_steps (Order.Restart node) (cond b Told.Done Told.Already); given = None } ∷ n.calls
-    go true = refl
-    go false = refl
-calls_on n (Order.Pull a b p) takes = absurd takes
-calls_on n (Order.Compact a p) takes = absurd takes
-calls_on n (Order.Level p a b) takes = absurd takes
+pub calls_on : (n : Network) (order : Order) (answer : Told) → (after_order n order answer).calls ≡ record { steps = order_steps order answer; given = None } ∷ n.calls
+calls_on n (Order.Stop node) Told.Done = refl
+calls_on n (Order.Restart node) Told.Done = refl
+calls_on n _ _ = refl
 
 network_steps : (order : Order) (answer : Told) → AllNetwork (order_steps order answer)
 network_steps (Order.Stop node) Told.Done = (refl, tt)
 network_steps (Order.Restart node) Told.Done = (refl, tt)
 network_steps _ _ = tt
 
-pub tells_order : (s s' : State) (order : Order) (answer : Told) → TakesOrder s.shape order → Obeys (network_of s) order answer (network_of s') → TellsOrder (Ok answer) (Some (calls_of s.past)) (Some (calls_of s'.past)) order
-tells_order s s' order answer takes obeys =
+pub tells_order : (s s' : State) (order : Order) (answer : Told) → Obeys (network_of s) order answer (network_of s') → TellsOrder (Ok answer) (Some (calls_of s.past)) (Some (calls_of s'.past)) order
+tells_order s s' order answer obeys =
     let n : Network = network_of s in
-    let by : after_order n order answer ≡ after_order n order (answer_to n order) = ap (λ a. after_order n order a) obeys.answer_is in
-    let calls : calls_of s'.past ≡ record { steps = order_steps order (answer_to n order); given = None } ∷ calls_of s.past = ap (λ (m : Network). m.calls) (obeys.network ∙ by) ∙ calls_on n order takes in
-    subst (λ a. TellsOrder (Ok a) (Some (calls_of s.past)) (Some (calls_of s'.past)) order) (sym obeys.answer_is)
-    (record { steps = order_steps order (answer_to n order); given = None }, record { network = network_steps order (answer_to n order); none = refl; comes = comes_to n order takes }, ap (λ l. Some l) calls)
+    let calls : calls_of s'.past ≡ record { steps = order_steps order answer; given = None } ∷ calls_of s.past = ap (λ (m : Network). m.calls) obeys.network ∙ calls_on n order answer in
+    (record { steps = order_steps order answer; given = None }, record { network = network_steps order answer; none = refl; comes = comes_to n order answer obeys.may }, ap (λ l. Some l) calls)
 
 -- ---- events that waited, and moves
 
 pub plays_given : (given : List Move) (n n' : Network) (event : Event) → IsOldest n.queue event → n' ≡ after_given n event → Plays given n given n'
 plays_given given n n' event oldest e = (Gives event ∷ [], tt, record { moves = sym (append-nil given); may = (tt, oldest); network = e })
 
-pub plays_next : (given given' : List Move) (n n' : Network) (chosen : Move) (result : Result Event Memory) (S T : Type 0) → IsSome n.shape → n.queue ≡ [] → Does n chosen n' result → given' ≡ given ++ chosen ∷ [] → S → T
-    → OnOk result (Plays given n given' n' × S × T)
-plays_next given given' n n' chosen (Ok event) S T some calm m e same seeds = ((Moves chosen m.reply ∷ [], tt, record { moves = e; may = (tt, (some, calm, m.may)); network = m.network }), same, seeds)
-plays_next given given' n n' chosen (Err memory) S T some calm m e same seeds = tt
+pub plays_next : (given given' : List Move) (n n' : Network) (chosen : Move) (result : Result Event Memory) (S T K : Type 0) → IsSome n.shape → n.queue ≡ [] → Does n chosen n' result → given' ≡ given ++ chosen ∷ [] → S → T → K
+    → OnOk result (Plays given n given' n' × S × T × K)
+plays_next given given' n n' chosen (Ok event) S T K some calm m e same seeds bays = ((Moves chosen m.reply m.opened ∷ [], tt, record { moves = e; may = (tt, (some, calm, m.may)); network = m.network }), same, seeds, bays)
+plays_next given given' n n' chosen (Err memory) S T K some calm m e same seeds bays = tt
 
 pub falls_next : (given given' : List Move) (n n' : Network) (chosen : Move) (result : Result Event Memory) → IsSome n.shape → n.queue ≡ [] → Does n chosen n' result → given' ≡ given ++ chosen ∷ [] → Falls given n given' n'
-falls_next given given' n n' chosen (Ok event) some calm m e = (Moves chosen m.reply ∷ [], record { moves = e; may = (tt, (some, calm, m.may)); network = m.network })
+falls_next given given' n n' chosen (Ok event) some calm m e = (Moves chosen m.reply m.opened ∷ [], record { moves = e; may = (tt, (some, calm, m.may)); network = m.network })
 falls_next given given' n n' chosen (Err memory) some calm m e = (Fails (Some chosen) ∷ [], record { moves = e; may = (tt, tt); network = m })
 
 pub most_next : (given given' : List Move) (chosen : Move) (result : Result Event Memory) → given' ≡ given ++ chosen ∷ [] → OnErr result (AtMostOne given given')
@@ -139,21 +128,6 @@ most_next given given' chosen (Err memory) e = (Some chosen, e)
 
 pub most_none : (given given' : List Move) → given' ≡ given → AtMostOne given given'
 most_none given given' e = (None, e ∙ sym (append-nil given))
-
--- what was never opened holds nothing
-pub fresh_runs : (s : State) → s ≡ fresh_state → RunsFrom s nothing_held
-fresh_runs s e = subst (λ (x : State). RunsFrom x nothing_held) (sym e) (record {
-  run = tt;
-  reached = record { cells = held; doubts = λ n p. refl; stopped = λ n. refl };
-})
-  where
-    held : (n p : ℕ) (id : BlobId) → cells_of none_standing n p id ≡ Absent
-    held zero p id = refl
-    held (suc n) p id = none (nat_lt p 0)
-      where
-        none : (b : Bool) → cell_held (cond b None None) id ≡ Absent
-        none true = refl
-        none false = refl
 
 -- what waits in the world is queued
 as_many : (waiting : List Made) (queue : List Event) → AllShow waiting queue → length queue ≡ length waiting
@@ -182,7 +156,7 @@ keeps_shape n (Orders order answer) shape may e = ordered_shape order answer
     ordered_shape (Order.Restart node) Told.Done = e
     ordered_shape _ _ = e
 keeps_shape n (Gives event) shape may e = e
-keeps_shape n (Moves chosen reply) shape may e = e
+keeps_shape n (Moves chosen reply opened) shape may e = e
 keeps_shape n (Fails chosen) shape may e = e
 
 keeps_shape_all : (n : Network) (acts : List Act) (shape : Shape) → AllMay n acts → n.shape ≡ Some shape → (all_acted n acts).shape ≡ Some shape
@@ -195,9 +169,9 @@ opened_shape false shape found e = absurd cc
 
 -- what was opened for a shape and went on was played for it, with the moves that were given
 pub played : (a b c : List Move) (s t u : State) (opened : Bool) (shape : Shape) (calls : List Called) → s ≡ fresh_state
-    → Plays a (network_of s) b (network_of t) → cond opened t.shape None ≡ Some shape → Plays b (network_of t) c (network_of u) → Some (calls_of u.past) ≡ Some calls → (T : Type 0) → T
-    → (moves : List Move) × (c ≡ a ++ moves) × IsPlayed shape moves calls × T
-played a b c s t u opened shape calls fresh p opening q told_is T seeds =
+    → Plays a (network_of s) b (network_of t) → cond opened t.shape None ≡ Some shape → Plays b (network_of t) c (network_of u) → Some (calls_of u.past) ≡ Some calls → (T K : Type 0) → T → K
+    → (moves : List Move) × (c ≡ a ++ moves) × IsPlayed shape moves calls × T × K
+played a b c s t u opened shape calls fresh p opening q told_is T K seeds bays =
     let whole : Plays a (network_of s) c (network_of u) = plays_on a (network_of s) b (network_of t) c (network_of u) p q in
     let from : network_of s ≡ nothing = ap network_of fresh in
     let may : AllMay nothing whole.0 = subst (λ (n : Network). AllMay n whole.0) from whole.2.may in
@@ -216,4 +190,5 @@ played a b c s t u opened shape calls fresh p opening q told_is T seeds =
         told = same ∙ ap (λ (n : Network). n.calls) there;
       },
       seeds,
+      bays,
     )

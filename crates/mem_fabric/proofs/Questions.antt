@@ -1,46 +1,63 @@
 -- What bytes ask, and what their frame asks.
-use Rattle.std.proofs.Common.{◌≡◌, ℕ, Bool, true, false, List, Option, Some, None, refl, sym, subst}
+use Rattle.std.proofs.Common.{◌≡◌, ◌∙◌, ℕ, List, Option, Some, None, refl, sym, ap}
+use Rattle.std.specs.Option.{option_and_then, option_map}
+use Rattle.cell_model.specs.Asks.{AsksInRange}
+use Rattle.cell_model.specs.declared.ask.Ask.{Ask}
+use Rattle.node_core.specs.Requests.{ask_of as requested_by}
+use Rattle.node_core.specs.Requests.{IsRequested, request_in, request_of}
 use Rattle.req_frame.specs.declared.frame.Body.{Body}
 use Rattle.req_frame.specs.declared.frame.Frame.{Frame}
 use Rattle.req_frame.specs.Reading.{frame_of}
-use Rattle.req_frame.specs.Spelling.{kind_of, is_exchanged, is_kind, IsFrame}
-use Rattle.req_frame.proofs.Frames.{among_again, among_takes}
-use Rattle.mem_fabric.specs.declared.asking.Question.{Question}
-use Rattle.mem_fabric.specs.Asking.{Asks, AsksNothing, Reads}
-use Rattle.mem_fabric.specs.Network.{is_asking}
-use Rattle.world_model.specs.Frames.{frame_in}
-use Rattle.world_model.proofs.NoteLaws.{decoded_frame}
+use Rattle.req_frame.specs.Spelling.{is_exchanged}
+use Rattle.req_frame.proofs.Frames.{among_takes}
+use Rattle.mem_fabric.specs.Asking.{AsksNothing, Reads}
+use Rattle.world_model.specs.Frames.{ask_of, frame_in}
 
--- what a decoder reads is read of the bytes
-pub reads_frame : (bytes : List ℕ) (f : Frame) (found : Option Question) → IsFrame f → frame_of bytes ≡ Some f → Asks f found → Reads (frame_in bytes) found
-reads_frame bytes f None is e asks = subst AsksNothing (sym (decoded_frame bytes f e)) asks
-reads_frame bytes f (Some question) is e asks = (f, decoded_frame bytes f e, is, asks)
+-- a node reads of a body what the world says that it asks
+same_ask : (body : Body) → ask_of body ≡ requested_by body
+same_ask (Body.Put id blob) = refl
+same_ask (Body.Get id) = refl
+same_ask (Body.Peek id) = refl
+same_ask (Body.Delete id at) = refl
+same_ask (Body.Find max token) = refl
+same_ask (Body.Fetch id) = refl
+same_ask (Body.Answer reply) = refl
 
--- frames that ask something are exchanged
-asking_exchanged : (body : Body) → is_asking body ≡ true → is_exchanged (kind_of body) ≡ true
-asking_exchanged (Body.Put id blob) h = refl
-asking_exchanged (Body.Get id) h = refl
-asking_exchanged (Body.Peek id) h = refl
-asking_exchanged (Body.Delete id at) h = refl
-asking_exchanged (Body.Fetch id) h = absurd cc
-asking_exchanged (Body.Answer reply) h = refl
-
--- a frame that asks something is read
-asking_read : (bytes : List ℕ) (f : Frame) → frame_in bytes ≡ Some f → is_asking f.body ≡ true → frame_of bytes ≡ Some f
-asking_read bytes f h asking =
-    let t = among_takes is_kind bytes f h in
-    among_again is_exchanged bytes f
-    (record { kind = asking_exchanged f.body asking; correlation = t.0.correlation; partition = t.0.partition; body = t.0.body; place = t.0.place })
-    t.1 t.2
-
--- what no decoder reads asks nothing
-pub reads_nothing : (bytes : List ℕ) → frame_of bytes ≡ None → AsksNothing (frame_in bytes)
-reads_nothing bytes e = go (frame_in bytes) refl
+-- what is read of bytes is what their frame asks
+pub reads_request : (bytes : List ℕ) (correlation partition : ℕ) (ask : Ask) → request_in bytes ≡ Some (correlation, partition, ask) → AsksInRange ask → IsRequested ask
+    → Reads (frame_in bytes) (Some (record { correlation = correlation; partition = partition; ask = ask }))
+reads_request bytes correlation partition ask e range requested = go (frame_of bytes) refl e
   where
-    go : (found : Option Frame) → frame_in bytes ≡ found → AsksNothing found
-    go None h = tt
-    go (Some f) h = by (is_asking f.body) refl
+    go : (found : Option Frame) → frame_of bytes ≡ found → option_and_then request_of found ≡ Some (correlation, partition, ask)
+        → Reads found (Some (record { correlation = correlation; partition = partition; ask = ask }))
+    go None is h = absurd cc
+    go (Some f) is h = by (requested_by f.body) refl h
       where
-        by : (b : Bool) → is_asking f.body ≡ b → is_asking f.body ≡ false
-        by true asking = absurd (let read : frame_of bytes ≡ Some f = asking_read bytes f h asking in cc)
-        by false asking = asking
+        by : (o : Option Ask) → requested_by f.body ≡ o → option_map {U = ℕ × ℕ × Ask} (λ a. (f.correlation, f.partition, a)) o ≡ Some (correlation, partition, ask)
+            → Reads (Some f) (Some (record { correlation = correlation; partition = partition; ask = ask }))
+        by None asks h = absurd cc
+        by (Some a) asks h =
+            let all : (f.correlation, f.partition, a) ≡ (correlation, partition, ask) = cc in (
+              f,
+              refl,
+              (among_takes is_exchanged bytes f is).0,
+              record {
+                ask = same_ask f.body ∙ asks ∙ ap (λ (t : ℕ × ℕ × Ask). Some t.2) all;
+                range = range;
+                requested = requested;
+                correlation = ap (λ (t : ℕ × ℕ × Ask). t.0) (sym all);
+                partition = ap (λ (t : ℕ × ℕ × Ask). t.1) (sym all);
+              },
+            )
+
+-- where nothing is read of bytes, they ask nothing
+pub reads_nothing : (bytes : List ℕ) → request_in bytes ≡ None → AsksNothing (frame_in bytes)
+reads_nothing bytes e = go (frame_of bytes) e
+  where
+    go : (found : Option Frame) → option_and_then request_of found ≡ None → AsksNothing found
+    go None h = tt
+    go (Some f) h = by (requested_by f.body) refl h
+      where
+        by : (o : Option Ask) → requested_by f.body ≡ o → option_map {U = ℕ × ℕ × Ask} (λ a. (f.correlation, f.partition, a)) o ≡ None → ask_of f.body ≡ None
+        by None asks h = same_ask f.body ∙ asks
+        by (Some a) asks h = absurd cc

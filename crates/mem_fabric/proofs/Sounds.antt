@@ -1,39 +1,38 @@
 -- What holds of a state at any time, after each kind of call.
-use Rattle.std.proofs.Common.{◌≡◌, ◌⊎◌, ℕ, zero, suc, ◌+◌, ◌-◌, ◌^◌, min, ◌<◌, ◌≤◌, arith, ◌==◌, Bool, true, false, cond, List, [], ◌∷◌, ◌++◌, length, map, take, drop, Some, None, All, slice_index, slice_index_or, slice_get, refl, sym, ap, ◌∙◌, subst, inl, inr, length-append}
+use Rattle.std.proofs.Common.{◌≡◌, ℕ, zero, suc, ◌+◌, ◌-◌, ◌^◌, min, ◌<◌, ◌≤◌, arith, ◌==◌, Bool, true, false, cond, List, [], ◌∷◌, ◌++◌, length, map, take, drop, Option, Some, None, All, slice_index, slice_index_or, refl, sym, ap, ◌∙◌, subst, inl, length-append}
 use Rattle.std.specs.Prelude.{filter, not, IsSome}
 use Rattle.std.proofs.lemmas.List.{map-append, get_or-map}
 use Rattle.std.proofs.lemmas.List.Edits.{length-remove}
 use Rattle.std.proofs.lemmas.List.Elements.{All-head, All-tail, All-filter, All-push, All-weaker, All-append, All-take, All-drop}
 use Rattle.std.proofs.lemmas.List.Sums.{length-filter, count_by-le-length}
-use Rattle.std.proofs.lemmas.Option.{slice_get_read}
-use Rattle.blob_id.specs.declared.id.BlobId.{BlobId}
 use Rattle.cell_model.specs.declared.ask.Reply.{Reply}
-use Rattle.cell_model.specs.Asks.{id_of, Answers, IsRefusal, AnswersInRange}
-use Rattle.cell_model.specs.Cells.{join}
+use Rattle.cell_model.specs.Asks.{AnswersInRange}
+use Rattle.lab_nodes.specs.Nodes.{stands}
+use Rattle.node_core.specs.Requests.{IsRequested}
+use Rattle.node_core.proofs.ReplyLemmas.{answer_exchanged, reply_spelled}
 use Rattle.req_frame.specs.declared.frame.Body.{Body}
 use Rattle.req_frame.specs.declared.frame.Frame.{Frame}
 use Rattle.req_frame.specs.Reading.{frame_of}
-use Rattle.req_frame.specs.Spelling.{frame_text, IsFrame}
-use Rattle.mem_fabric.specs.Asking.{IsQuestion, Reads}
+use Rattle.req_frame.specs.Spelling.{frame_text, IsFrame, IsReply}
+use Rattle.mem_fabric.specs.Asking.{IsQuestion}
 use Rattle.mem_fabric.specs.declared.asking.Question.{Question}
 use Rattle.mem_fabric.specs.declared.flight.Asked.{Asked}
 use Rattle.mem_fabric.specs.declared.flight.Replied.{Replied}
 use Rattle.mem_fabric.specs.declared.past.Past.{Past}
-use Rattle.mem_fabric.specs.Network.{Network, Moved, nothing_held, world_of, taken, ticked, quiet, is_to, is_by, requests_elsewhere, replies_elsewhere, broken, handed, reply_event, after_move, after_steps, after_send, after_sent, is_stopped, asked_of, asked_by, answered, ran, stands, MayAnswer, MayGive}
+use Rattle.mem_fabric.specs.Network.{Network, Moved, nothing_held, taken, ticked, quiet, is_to, is_by, requests_elsewhere, replies_elsewhere, broken, handed, reply_event, after_move, after_steps, after_send, after_sent, is_stopped, asked_by, is_fault, run_step, answered, MayAnswer, MayGive}
 use Rattle.mem_fabric.specs.Past.{calls_of}
-use Rattle.mem_fabric.specs.Runs.{IsImageOf, LeadsTo}
-use Rattle.mem_fabric.specs.Slots.{Standing}
-use Rattle.mem_fabric.specs.Standing.{stands_at, cells_of, IsAsked}
-use Rattle.mem_fabric.specs.Sound.{State, told_world, IsSent, IsGiven, is_among, AllShow, IsStateOf, IsSound, network_of, image_of, RunsFrom, KeepsState, asked_number, replied_number, RunsRequest, QuestionAt, AskedAs}
-use Rattle.mem_fabric.proofs.Worlds.{goes_to, AllowedOn, world_on, keeps_run, after_quiet, after_now, after_cut, after_request, after_handed, after_ran}
+use Rattle.mem_fabric.specs.Torn.{has_torn}
+use Rattle.mem_fabric.specs.Sound.{State, told_world, IsSent, IsGiven, is_among, AllShow, IsStateOf, IsSound, network_of, KeepsState, asked_number, replied_number, RunsRequest}
+use Rattle.mem_fabric.proofs.Worlds.{goes_to, AllowedOn, AllStill, world_on, run_keeps, cells_keep, torn_keeps, after_quiet, after_now, after_cut, after_request, after_handed}
 use Rattle.world_model.specs.declared.step.Called.{Called}
 use Rattle.world_model.specs.declared.step.Event.{Event}
 use Rattle.world_model.specs.declared.step.Step.{Step}
-use Rattle.world_model.specs.Fabric.{KeepsRun}
 use Rattle.world_model.specs.Frames.{frame_in}
 use Rattle.world_model.specs.Lists.{numbered}
 use Rattle.world_model.specs.Told.{items_of, told}
-use Rattle.world_model.specs.World.{Cells, World, Request, Answered, Call, Reply_made, Broken_made, Now_made, Made, made_by, Shows, IsNext, world, call_from, call_of, call_at, arriving_call, MayReply, MayRun}
+use Rattle.world_model.specs.Record.{Took, Given}
+use Rattle.world_model.specs.World.{answered as given_to}
+use Rattle.world_model.specs.World.{Cells, World, Change, Request, Answered, Call, Reply_made, Broken_made, Now_made, Made, made_by, Shows, IsNext, world, after, call_at, call_from, call_of, Run}
 use Rattle.world_model.proofs.CellLaws.{same_number, number_true}
 use Rattle.world_model.proofs.NoteLaws.{decoded_frame}
 
@@ -89,14 +88,11 @@ map-taken f xs i false = map-append f (take i xs) (drop (suc i) xs) ∙ ap (λ l
 pub world_by : (past before : Past) (call : Called) (w : World) → calls_of past ≡ call ∷ calls_of before → goes_to (told_world before) (items_of call) ≡ w → told_world past ≡ w
 world_by past before call w told_is is = ap (λ (calls : List Called). world nothing_held (told calls)) told_is ∙ world_on nothing_held (items_of call) (told (calls_of before)) ∙ is
 
-pub image_is : (s : State) → IsStateOf (told_world s.past) s → IsImageOf (image_of s) (told_world s.past)
-image_is s is = record { cells = is.cells; doubts = λ n p. sym (is.sure n p); stopped = λ n. sym (is.stopped n) }
-
-pub keeps : (s s' : State) (call : Called) → IsSound s → IsSound s' → calls_of s'.past ≡ call ∷ calls_of s.past → AllowedOn (told_world s.past) (items_of call) → KeepsState s s'
-keeps s s' call sound sound' told_is allowed =
-    subst (λ (calls : List Called). KeepsRun (RunsFrom s) (λ opening. LeadsTo opening calls (image_of s'))) (sym told_is)
-    (keeps_run (calls_of s.past) (image_of s) call (image_of s') (image_is s sound.state) allowed
-    (subst (λ (calls : List Called). IsImageOf (image_of s') (world nothing_held (told calls))) told_is (image_is s' sound'.state)))
+pub keeps : (s s' : State) (steps : List Step) (given : Option Event) → AllStill steps → calls_of s'.past ≡ record { steps = steps; given = given } ∷ calls_of s.past
+    → AllowedOn (told_world s.past) (items_of (record { steps = steps; given = given })) → KeepsState s s'
+keeps s s' steps given still told_is allowed = λ opening.
+    subst (λ (calls : List Called). (Run opening (told (calls_of s.past)) → Run opening (told calls)) × ((world opening (told calls)).cells ≡ (world opening (told (calls_of s.past))).cells) × (has_torn calls ≡ has_torn (calls_of s.past)))
+    (sym told_is) (run_keeps opening (calls_of s.past) steps given still allowed, cells_keep opening (calls_of s.past) steps given still, torn_keeps (calls_of s.past) steps given still)
 
 -- where no event waits in the state, none waits in the world
 nothing_shown : (waiting : List Made) (queue : List Event) → AllShow waiting queue → queue ≡ [] → waiting ≡ []
@@ -125,8 +121,6 @@ steps_now s ms moment past sound calm small moment_is told_is =
     let none : w.waiting ≡ [] = none_waits s sound calm in
     let there : told_world past ≡ record w { clock = moment } = world_by past s.past _ _ told_is (after_now w moment none) in
     let state : IsStateOf (record w { clock = moment }) s' = record {
-      cells = st.cells;
-      sure = st.sure;
       stopped = st.stopped;
       waits = st.waits;
       clock = refl;
@@ -145,35 +139,32 @@ steps_now s ms moment past sound calm small moment_is told_is =
       small_sent = sound.small_sent;
       small_answered = sound.small_answered;
       shape = sound.shape;
-      standing = sound.standing;
     } in
     let later : w.clock ≤ moment = omega (arith, st.clock, moment_is) in
     let next : IsNext (w.waiting ++ Now_made moment ∷ []) (Event.Now moment) = subst (λ l. IsNext (l ++ Now_made moment ∷ []) (Event.Now moment)) (sym none) refl in
     let clock_is : moment ≡ min (w.clock + ms) (2 ^ 64 - 1) = moment_is ∙ ap (λ c. min (c + ms) (2 ^ 64 - 1)) (sym st.clock) in
     record {
       sound = sound';
-      run = keeps s s' (record { steps = Step.Now moment ∷ []; given = Some (Event.Now moment) }) sound sound' told_is ((tt, later), next);
+      run = keeps s s' (Step.Now moment ∷ []) (Some (Event.Now moment)) (tt, refl) told_is ((tt, later), next);
       network = ap (λ calls. record (network_of s) { calls = calls }) (told_is ∙ ap (λ k. record { steps = Step.Now k ∷ []; given = Some (Event.Now k) } ∷ calls_of s.past) clock_is);
     }
 
 -- ---- nothing comes of it
 
 -- a state with less in flight, after a call that changes nothing else of the world
-steps_less : (s : State) (steps : List Step) (event : Event) (requests : List Asked) (replies : List Replied) (past : Past) → IsSound s
+steps_less : (s : State) (steps : List Step) (event : Event) (requests : List Asked) (replies : List Replied) (past : Past) → IsSound s → AllStill steps
     → goes_to (told_world s.past) (items_of (record { steps = steps; given = Some event })) ≡ told_world s.past
     → AllowedOn (told_world s.past) (items_of (record { steps = steps; given = Some event }))
     → All (IsSent (told_world s.past).sent) requests → All (λ asked. is_among s.stopped asked.node ≡ false) requests → length requests ≤ length s.requests
     → All (IsGiven (told_world s.past).replies) replies → All (λ replied. is_among s.stopped replied.node ≡ false) replies → length replies ≤ length s.replies
     → calls_of past ≡ record { steps = steps; given = Some event } ∷ calls_of s.past
     → Steps s (record s { requests = requests; replies = replies; past = past }) (record { steps = steps; event = event; requests = map asked_number requests; replies = map replied_number replies })
-steps_less s steps event requests replies past sound stays allowed known awake few known' awake' few' told_is =
+steps_less s steps event requests replies past sound still stays allowed known awake few known' awake' few' told_is =
     let w : World = told_world s.past in
     let st = sound.state in
     let s' : State = record s { requests = requests; replies = replies; past = past } in
     let there : told_world past ≡ w = world_by past s.past _ _ told_is stays in
     let state : IsStateOf w s' = record {
-      cells = st.cells;
-      sure = st.sure;
       stopped = st.stopped;
       waits = st.waits;
       clock = st.clock;
@@ -194,11 +185,10 @@ steps_less s steps event requests replies past sound stays allowed known awake f
       small_sent = sound.small_sent;
       small_answered = sound.small_answered;
       shape = sound.shape;
-      standing = sound.standing;
     } in
     record {
       sound = sound';
-      run = keeps s s' (record { steps = steps; given = Some event }) sound sound' told_is allowed;
+      run = keeps s s' steps (Some event) still told_is allowed;
       network = ap (λ calls. record { shape = s.shape; calls = calls; requests = map asked_number requests; replies = map replied_number replies; queue = s.queue }) told_is;
     }
 
@@ -208,7 +198,7 @@ steps_quiet : (s : State) (requests : List Asked) (replies : List Replied) (past
     → calls_of past ≡ record { steps = []; given = Some Event.Quiet } ∷ calls_of s.past
     → Steps s (record s { requests = requests; replies = replies; past = past }) (quiet (map asked_number requests) (map replied_number replies))
 steps_quiet s requests replies past sound known awake few known' awake' few' told_is =
-    steps_less s [] Event.Quiet requests replies past sound (after_quiet (told_world s.past)) (tt, tt) known awake few known' awake' few' told_is
+    steps_less s [] Event.Quiet requests replies past sound tt (after_quiet (told_world s.past)) (tt, tt) known awake few known' awake' few' told_is
 
 pub steps_left : (s : State) (place : ℕ) (stays : Bool) (past : Past) → IsSound s → place < length s.requests
     → calls_of past ≡ record { steps = []; given = Some Event.Quiet } ∷ calls_of s.past
@@ -277,7 +267,7 @@ steps_cut s node past sound calm told_is =
     let numbers' : map replied_number replies ≡ replies_elsewhere (network_of s) node = replies_left s node sound in
     let next : IsNext (w.waiting ++ Broken_made node ∷ []) (Event.Broken node) = subst (λ l. IsNext (l ++ Broken_made node ∷ []) (Event.Broken node)) (sym none) refl in
     let less : Steps s s' (record { steps = Step.Cut node ∷ []; event = Event.Broken node; requests = map asked_number requests; replies = map replied_number replies }) =
-    steps_less s (Step.Cut node ∷ []) (Event.Broken node) requests replies past sound (after_cut w node none) ((tt, tt), next)
+    steps_less s (Step.Cut node ∷ []) (Event.Broken node) requests replies past sound (tt, refl) (after_cut w node none) ((tt, tt), next)
     (All-filter (asked_elsewhere node) (IsSent w.sent) s.requests st.requests)
     (All-filter (asked_elsewhere node) (λ (asked : Asked). is_among s.stopped asked.node ≡ false) s.requests st.running) (length-filtered (asked_elsewhere node) s.requests)
     (All-filter (replied_elsewhere node) (IsGiven w.replies) s.replies st.replies)
@@ -313,8 +303,6 @@ steps_sent s node frame past sent sound runs_there more small told_is =
     All-push (IsSent w'.sent) s.requests asked (All-weaker (IsSent w.sent) (IsSent w'.sent) (λ a h. numbered_more request w.sent a.number _ h) s.requests st.requests) (numbered_last request w.sent s.sent st.sent) in
     let count : length (request ∷ w.sent) ≡ sent = omega (arith, st.sent, more) in
     let state : IsStateOf w' s' = record {
-      cells = st.cells;
-      sure = st.sure;
       stopped = st.stopped;
       waits = st.waits;
       clock = st.clock;
@@ -334,17 +322,26 @@ steps_sent s node frame past sent sound runs_there more small told_is =
       small_sent = small;
       small_answered = sound.small_answered;
       shape = sound.shape;
-      standing = sound.standing;
     } in
     let numbers : map asked_number (s.requests ++ asked ∷ []) ≡ map asked_number s.requests ++ length w.sent ∷ [] =
     map-append asked_number s.requests (asked ∷ []) ∙ ap (λ k. map asked_number s.requests ++ k ∷ []) (sym st.sent) in
     record {
       sound = sound';
-      run = keeps s s' (record { steps = Step.Send 0 node frame ∷ []; given = None }) sound sound' told_is (tt, inl refl);
+      run = keeps s s' (Step.Send 0 node frame ∷ []) None (tt, refl) told_is (tt, inl refl);
       network = ap (λ calls. record { shape = s.shape; calls = calls; requests = map asked_number (s.requests ++ asked ∷ []); replies = map replied_number s.replies; queue = s.queue }) told_is
           ∙ ap (λ l. record { shape = s.shape; calls = record { steps = Step.Send 0 node frame ∷ []; given = None } ∷ calls_of s.past; requests = l; replies = map replied_number s.replies; queue = s.queue }) numbers
           ∙ ap (λ b. cond b (after_steps (network_of s) (Step.Refused node frame ∷ [])) (after_sent (network_of s) node frame)) (sym runs_there);
     }
+
+-- a request is refused
+
+pub refused_as : {node node' : ℕ} {frame frame' : List ℕ} {before before' : List Called} → node ≡ node' → frame ≡ frame' → before ≡ before'
+    → record { steps = Step.Refused node frame ∷ []; given = None } ∷ before ≡ record { steps = Step.Refused node' frame' ∷ []; given = None } ∷ before'
+refused_as e f g = cc
+
+pub run_refused : (s : State) (node : ℕ) (frame : List ℕ) (past : Past) → is_stopped (network_of s) node ≡ true
+    → calls_of past ≡ record { steps = Step.Refused node frame ∷ []; given = None } ∷ calls_of s.past → KeepsState s (record s { past = past })
+run_refused s node frame past stopped told_is = keeps s (record s { past = past }) (Step.Refused node frame ∷ []) None (tt, refl) told_is (tt, stopped)
 
 -- ---- a reply comes
 
@@ -367,8 +364,6 @@ steps_handed s place stays replied bytes past sound calm within here spelled rea
     let s' : State = record s { replies = taken s.replies place stays; past = past } in
     let there : told_world past ≡ w' = world_by past s.past _ _ told_is (after_handed w replied.number answer replied.node bytes none g.is refl) in
     let state : IsStateOf w' s' = record {
-      cells = st.cells;
-      sure = st.sure;
       stopped = st.stopped;
       waits = st.waits;
       clock = st.clock;
@@ -388,7 +383,6 @@ steps_handed s place stays replied bytes past sound calm within here spelled rea
       small_sent = sound.small_sent;
       small_answered = sound.small_answered;
       shape = sound.shape;
-      standing = sound.standing;
     } in
     let shown : Shows (Reply_made answer) event = (refl, (g.asked, refl, decoded_frame bytes replied.frame read ∙ ap Some g.frame)) in
     let next : IsNext (w.waiting ++ made_by (numbered w.replies replied.number)) event =
@@ -400,7 +394,7 @@ steps_handed s place stays replied bytes past sound calm within here spelled rea
     record {
       steps = record {
         sound = sound';
-        run = keeps s s' (record { steps = Step.Hand replied.number ∷ []; given = Some event }) sound sound' told_is ((tt, some), next);
+        run = keeps s s' (Step.Hand replied.number ∷ []) (Some event) (tt, refl) told_is ((tt, some), next);
         network =
             ap (λ calls. record { shape = s.shape; calls = calls; requests = map asked_number s.requests; replies = map replied_number (taken s.replies place stays); queue = s.queue }) told_is
             ∙ ap (λ l. record { shape = s.shape; calls = record { steps = Step.Hand replied.number ∷ []; given = Some event } ∷ calls_of s.past; requests = map asked_number s.requests; replies = l; queue = s.queue }) (map-taken replied_number s.replies place stays)
@@ -412,62 +406,110 @@ steps_handed s place stays replied bytes past sound calm within here spelled rea
 
 -- ---- a request is run
 
--- a node may reply so in the world
-may_run : (n : Network) (call : Call) (reply : Reply) → MayAnswer n call reply → MayReply None ((world_of n).cells call.node call.partition (id_of call.ask)) call.ask reply
-may_run n call reply may = go (stands n.shape call.node call.partition) refl
+-- a reply says that the device failed just where it is that one
+pub fault_is : (reply : Reply) → is_fault reply ≡ true → reply ≡ Reply.Fault
+fault_is Reply.Fault e = refl
+fault_is _ e = absurd cc
+
+pub no_fault_is : (reply : Reply) → is_fault reply ≡ false → reply ≡ Reply.Fault → ⊥
+no_fault_is reply e fault = absurd (let is : is_fault reply ≡ true = ap is_fault fault in cc)
+
+-- A world as another but for what is held and in doubt, with one more reply.
+pub record HasReply (w : World) (answer : Answered) (v : World) : Type 0 where
+  pub cells : Cells
+  pub doubts : ℕ → ℕ → Option Change
+  pub is : v ≡ record w { cells = cells; doubts = doubts; replies = answer ∷ w.replies }
+
+replied_by : (w : World) (send : ℕ) (request : Request) (reply : Reply) → numbered w.sent send ≡ Some request
+    → HasReply w (record { request = request; reply = reply }) (goes_to w (items_of (record { steps = run_step send reply ∷ []; given = Some Event.Quiet })))
+replied_by w send request reply is = go (is_fault reply) refl
   where
-    go : (b : Bool) → stands n.shape call.node call.partition ≡ b → MayReply None ((world_of n).cells call.node call.partition (id_of call.ask)) call.ask reply
-    go false e = inr (inr (may.none e))
-    go true e = elim (may.some e) [
-      | inl answers ↦ inl answers
-      | inr refused ↦ inr (inl (refused.1, λ fault. absurd (let same : Reply.Memory ≡ Reply.Fault = sym refused.0 ∙ fault in cc)))
-    ]
+    answer : Answered
+    answer = record { request = request; reply = reply }
+
+    go : (b : Bool) → is_fault reply ≡ b → HasReply w answer (after (after w (Took (cond b (Step.Torn send) (Step.Exec send reply)))) (Given Event.Quiet))
+    go true e = let done : World = after w (Took (Step.Torn send)) in record {
+      cells = done.cells;
+      doubts = done.doubts;
+      is = after_quiet done ∙ ap (λ l. record w { cells = done.cells; doubts = done.doubts; replies = l })
+          (ap (λ (o : Option Request). given_to o Reply.Fault w.replies) is ∙ ap (λ r. record { request = request; reply = r } ∷ w.replies) (sym (fault_is reply e)));
+    }
+    go false e = let done : World = after w (Took (Step.Exec send reply)) in record {
+      cells = done.cells;
+      doubts = done.doubts;
+      is = after_quiet done ∙ ap (λ l. record w { cells = done.cells; doubts = done.doubts; replies = l }) (ap (λ (o : Option Request). given_to o reply w.replies) is);
+    }
+
+-- What a request in flight asks, by its place, and as what it was sent.
+pub record AsksAs (s : State) (place : ℕ) (asked : Asked) (question : Question) (f : Frame) : Type 0 where
+  pub request : numbered (told_world s.past).sent asked.number ≡ Some (record { from = 0; node = asked.node; frame = Some f })
+  pub called : call_of (Some (record { from = 0; node = asked.node; frame = Some f })) ≡ Some (record { node = asked.node; partition = question.partition; ask = question.ask })
+  pub running : is_among s.stopped asked.node ≡ false
+  pub number : slice_index (network_of s).requests place ≡ asked.number
+  pub asked_is : asked_by (network_of s) (slice_index (network_of s).requests place) ≡ Some (record { node = asked.node; partition = question.partition; ask = question.ask })
+
+pub asks_as : (s : State) (place : ℕ) (asked : Asked) (f : Frame) (question : Question) → IsSound s → place < length s.requests → asked ≡ slice_index_or s.requests place asked
+    → frame_in asked.frame ≡ Some f → IsQuestion f question → AsksAs s place asked question f
+asks_as s place asked f question sound within here is_frame asks =
+    let w : World = told_world s.past in
+    let n : Network = network_of s in
+    let st = sound.state in
+    let sent_is : IsSent w.sent asked = subst (λ a. IsSent w.sent a) (sym here) (st.requests place asked within) in
+    let request : Request = record { from = 0; node = asked.node; frame = Some f } in
+    let request_is : numbered w.sent asked.number ≡ Some request = sent_is ∙ ap (λ o. Some (record { from = 0; node = asked.node; frame = o })) is_frame in
+    let called : call_of (Some request) ≡ Some (record { node = asked.node; partition = question.partition; ask = question.ask }) =
+    ap (λ o. call_from asked.node f.partition o) asks.ask ∙ ap (λ p. Some (record { node = asked.node; partition = p; ask = question.ask })) (sym asks.partition) in
+    let number : slice_index n.requests place ≡ asked.number = get_or-map asked_number s.requests place asked 0 within ∙ ap asked_number (sym here) in
+    record {
+      request = request_is;
+      called = called;
+      running = subst (λ (a : Asked). is_among s.stopped a.node ≡ false) (sym here) (st.running place asked within);
+      number = number;
+      asked_is = ap (λ k. call_at w k) number ∙ ap call_of request_is ∙ called;
+    }
+
+-- what is answered to a request has a frame
+answer_spelled : (n : Network) (call : Call) (reply : Reply) → IsRequested call.ask → MayAnswer n call reply → AnswersInRange reply → IsReply reply
+answer_spelled n call reply requested may range = go (stands n.shape call.node call.partition) refl
+  where
+    go : (b : Bool) → stands n.shape call.node call.partition ≡ b → IsReply reply
+    go true e = reply_spelled call.ask reply requested (may.some e).0 range
+    go false e = subst IsReply (sym (may.none e)) tt
 
 -- a state after the request at a place was run
 pub record RunsSoundly (s : State) (place : ℕ) (stays : Bool) (s' : State) : Type 0 where
   pub sound : IsSound s'
-  pub run : KeepsState s s'
   pub runs : RunsRequest s (Some place) stays Event.Quiet s'
 
 -- the reply to a question that a request asks
-pub steps_ran : (s : State) (place : ℕ) (stays : Bool) (asked : Asked) (f : Frame) (question : Question) (reply : Reply) (replicas : Standing) (past : Past) (count : ℕ) → IsSound s
-    → place < length s.requests → asked ≡ slice_index_or s.requests place asked
-    → frame_in asked.frame ≡ Some f → IsFrame f → IsQuestion f question
-    → IsAsked s.replicas asked.node question.partition question.ask reply replicas → AnswersInRange reply
+pub steps_ran : (s : State) (place : ℕ) (stays : Bool) (asked : Asked) (f : Frame) (question : Question) (reply : Reply) (past : Past) (count : ℕ) → IsSound s
+    → place < length s.requests → AsksAs s place asked question f → IsFrame f → IsQuestion f question
+    → MayAnswer (network_of s) (record { node = asked.node; partition = question.partition; ask = question.ask }) reply → AnswersInRange reply
     → count ≡ s.answered + 1 → count < 2 ^ 32
-    → calls_of past ≡ record { steps = Step.Exec asked.number reply ∷ []; given = Some Event.Quiet } ∷ calls_of s.past
+    → calls_of past ≡ record { steps = run_step asked.number reply ∷ []; given = Some Event.Quiet } ∷ calls_of s.past
     → RunsSoundly s place stays (record s {
-      replicas = replicas;
       requests = taken s.requests place stays;
       replies = s.replies ++ record { number = s.answered; node = asked.node; frame = record { correlation = question.correlation; partition = question.partition; body = Body.Answer reply } } ∷ [];
       answered = count;
       past = past;
     })
-steps_ran s place stays asked f question reply replicas past count sound within here is_frame is_f asks step range more small told_is =
+steps_ran s place stays asked f question reply past count sound within as_sent is_f asks may range more small told_is =
     let w : World = told_world s.past in
     let st = sound.state in
     let n : Network = network_of s in
-    let sent_is : IsSent w.sent asked = subst (λ a. IsSent w.sent a) (sym here) (st.requests place asked within) in
     let request : Request = record { from = 0; node = asked.node; frame = Some f } in
-    let request_is : numbered w.sent asked.number ≡ Some request = sent_is ∙ ap (λ o. Some (record { from = 0; node = asked.node; frame = o })) is_frame in
     let call : Call = record { node = asked.node; partition = question.partition; ask = question.ask } in
-    let called : call_of (Some request) ≡ Some call =
-    ap (λ o. call_from asked.node f.partition o) asks.asks.ask ∙ ap (λ p. Some (record { node = asked.node; partition = p; ask = question.ask })) (sym asks.partition) in
     let replied : Replied = record { number = s.answered; node = asked.node; frame = record { correlation = question.correlation; partition = question.partition; body = Body.Answer reply } } in
     let answer : Answered = record { request = request; reply = reply } in
-    let cells : Cells = λ node p id. join (w.cells node p id) (arriving_call (call_of (Some request)) reply node p id) in
-    let w' : World = record w { cells = cells; replies = answer ∷ w.replies } in
-    let s' : State = record s { replicas = replicas; requests = taken s.requests place stays; replies = s.replies ++ replied ∷ []; answered = count; past = past } in
-    let there : told_world past ≡ w' = world_by past s.past _ _ told_is (after_ran w asked.number request reply request_is) in
-    let held : (node p : ℕ) (id : BlobId) → cells_of replicas node p id ≡ cells node p id = λ node p id.
-    step.cells node p id
-    ∙ ap (λ c. join c (arriving_call (Some call) reply node p id)) (st.cells node p id)
-    ∙ ap (λ o. join (w.cells node p id) (arriving_call o reply node p id)) (sym called) in
+    let by : HasReply w answer (goes_to w (items_of (record { steps = run_step asked.number reply ∷ []; given = Some Event.Quiet }))) = replied_by w asked.number request reply as_sent.request in
+    let w' : World = record w { cells = by.cells; doubts = by.doubts; replies = answer ∷ w.replies } in
+    let s' : State = record s { requests = taken s.requests place stays; replies = s.replies ++ replied ∷ []; answered = count; past = past } in
+    let there : told_world past ≡ w' = world_by past s.past _ _ told_is by.is in
     let spelled : IsFrame replied.frame = record {
-      kind = refl;
+      kind = answer_exchanged reply;
       correlation = subst (λ k. k < 2 ^ 64) (sym asks.correlation) is_f.correlation;
       partition = subst (λ k. k < 2 ^ 16) (sym asks.partition) is_f.partition;
-      body = range;
+      body = answer_spelled n call reply asks.requested may range;
       place = tt;
     } in
     let new_given : IsGiven (answer ∷ w.replies) replied = record {
@@ -481,12 +523,8 @@ steps_ran s place stays asked f question reply replicas past count sound within 
     All-push (IsGiven (answer ∷ w.replies)) s.replies replied
     (All-weaker (IsGiven w.replies) (IsGiven (answer ∷ w.replies)) (λ r g. record { asked = g.asked; reply = g.reply; is = numbered_more answer w.replies r.number _ g.is; frame = g.frame; spelled = g.spelled }) s.replies st.replies)
     new_given in
-    let runs : is_among s.stopped asked.node ≡ false =
-    subst (λ (a : Asked). is_among s.stopped a.node ≡ false) (sym here) (st.running place asked within) in
     let counted : length (answer ∷ w.replies) ≡ count = omega (arith, st.answered, more) in
     let state : IsStateOf w' s' = record {
-      cells = held;
-      sure = st.sure;
       stopped = st.stopped;
       waits = st.waits;
       clock = st.clock;
@@ -495,72 +533,35 @@ steps_ran s place stays asked f question reply replicas past count sound within 
       requests = All-taken (IsSent w.sent) s.requests place stays st.requests;
       running = All-taken (λ (a : Asked). is_among s.stopped a.node ≡ false) s.requests place stays st.running;
       replies = given;
-      answering = All-push (λ (r : Replied). is_among s.stopped r.node ≡ false) s.replies replied st.answering runs;
+      answering = All-push (λ (r : Replied). is_among s.stopped r.node ≡ false) s.replies replied st.answering as_sent.running;
     } in
     let fewer = sound.few_requests in
     let fewer' = sound.few_replies in
-    let sound' : IsSound s' = record {
-      state = subst (λ (v : World). IsStateOf v s') (sym there) state;
-      few_requests = omega (arith, length-taken s.requests place stays within);
-      few_replies = omega (arith, length-append s.replies (replied ∷ []), more);
-      few_events = sound.few_events;
-      small_sent = sound.small_sent;
-      small_answered = small;
-      shape = sound.shape;
-      standing = λ node p. step.stands node p ∙ sound.standing node p;
-    } in
-    let at_cell : cells_of s.replicas asked.node question.partition (id_of question.ask) ≡ w.cells asked.node question.partition (id_of question.ask) = st.cells asked.node question.partition (id_of question.ask) in
-    let stood : stands_at s.replicas asked.node question.partition ≡ stands s.shape asked.node question.partition = sound.standing asked.node question.partition in
-    let may_answer : MayAnswer n call reply = record {
-      none = λ e. step.none (stood ∙ e);
-      some = λ e. subst (λ c. Answers c question.ask reply ⊎ (reply ≡ Reply.Memory) × IsRefusal question.ask reply) at_cell (step.some (stood ∙ e));
-    } in
-    let number : slice_index n.requests place ≡ asked.number = get_or-map asked_number s.requests place asked 0 within ∙ ap asked_number (sym here) in
-    let asked_is : asked_by n (slice_index n.requests place) ≡ Some call =
-    ap (λ k. asked_of (numbered w.sent k)) number ∙ ap asked_of request_is ∙ ap (λ b. cond b (call_of (Some request)) None) asks.asks.asking ∙ called in
-    let called_at : call_at w asked.number ≡ Some call = ap call_of request_is ∙ called in
-    let reply_may : MayReply (w.doubts asked.node question.partition) (w.cells asked.node question.partition (id_of question.ask)) question.ask reply =
-    subst (λ d. MayReply d (w.cells asked.node question.partition (id_of question.ask)) question.ask reply) (sym (st.sure asked.node question.partition)) (may_run n call reply may_answer) in
-    let may : MayRun w asked.number call reply = record { sent = called_at; running = st.stopped asked.node ∙ runs; says = reply_may } in
-    let steps : Steps s s' (ran n reply (Some place) stays) = record {
-      sound = sound';
-      run = keeps s s' (record { steps = Step.Exec asked.number reply ∷ []; given = Some Event.Quiet }) sound sound' told_is ((tt, (call, may)), tt);
-      network =
-          ap (λ calls. record { shape = s.shape; calls = calls; requests = map asked_number (taken s.requests place stays); replies = map replied_number (s.replies ++ replied ∷ []); queue = s.queue }) told_is
-          ∙ ap (λ l. record { shape = s.shape; calls = record { steps = Step.Exec asked.number reply ∷ []; given = Some Event.Quiet } ∷ calls_of s.past; requests = l; replies = map replied_number (s.replies ++ replied ∷ []); queue = s.queue }) (map-taken asked_number s.requests place stays)
-          ∙ ap (λ l. record { shape = s.shape; calls = record { steps = Step.Exec asked.number reply ∷ []; given = Some Event.Quiet } ∷ calls_of s.past; requests = taken (map asked_number s.requests) place stays; replies = l; queue = s.queue })
-          (map-append replied_number s.replies (replied ∷ []) ∙ ap (λ k. map replied_number s.replies ++ k ∷ []) (sym st.answered))
-          ∙ ap (λ k. after_move n (record { steps = Step.Exec k reply ∷ []; event = Event.Quiet; requests = taken n.requests place stays; replies = n.replies ++ length w.replies ∷ [] })) (sym number)
-          ∙ ap (λ o. after_move n (answered n reply (slice_index n.requests place) (taken n.requests place stays) o)) (sym asked_is);
-    } in
     record {
-      sound = sound';
-      run = steps.run;
+      sound = record {
+        state = subst (λ (v : World). IsStateOf v s') (sym there) state;
+        few_requests = omega (arith, length-taken s.requests place stays within);
+        few_replies = omega (arith, length-append s.replies (replied ∷ []), more);
+        few_events = sound.few_events;
+        small_sent = sound.small_sent;
+        small_answered = small;
+        shape = sound.shape;
+      };
       runs = record {
         reply = reply;
-        may = subst (λ o. MayGive n o reply) (sym asked_is) may_answer;
-        gave = ap (λ o. (answered n reply (slice_index n.requests place) (taken n.requests place stays) o).event) asked_is;
-        network = steps.network;
+        may = subst (λ o. MayGive n o reply) (sym as_sent.asked_is) may;
+        gave = ap (λ o. (answered n reply (slice_index n.requests place) (taken n.requests place stays) o).event) as_sent.asked_is;
+        network =
+            ap (λ calls. record { shape = s.shape; calls = calls; requests = map asked_number (taken s.requests place stays); replies = map replied_number (s.replies ++ replied ∷ []); queue = s.queue }) told_is
+            ∙ ap (λ l. record { shape = s.shape; calls = record { steps = run_step asked.number reply ∷ []; given = Some Event.Quiet } ∷ calls_of s.past; requests = l; replies = map replied_number (s.replies ++ replied ∷ []); queue = s.queue }) (map-taken asked_number s.requests place stays)
+            ∙ ap (λ l. record { shape = s.shape; calls = record { steps = run_step asked.number reply ∷ []; given = Some Event.Quiet } ∷ calls_of s.past; requests = taken (map asked_number s.requests) place stays; replies = l; queue = s.queue })
+            (map-append replied_number s.replies (replied ∷ []) ∙ ap (λ k. map replied_number s.replies ++ k ∷ []) (sym st.answered))
+            ∙ ap (λ k. after_move n (record { steps = run_step k reply ∷ []; event = Event.Quiet; requests = taken n.requests place stays; replies = n.replies ++ length w.replies ∷ [] })) (sym as_sent.number)
+            ∙ ap (λ o. after_move n (answered n reply (slice_index n.requests place) (taken n.requests place stays) o)) (sym as_sent.asked_is);
       };
     }
 
 -- the same call, by equal parts
 pub ran_as : {send send' : ℕ} {reply reply' : Reply} {before before' : List Called} → send ≡ send' → reply ≡ reply' → before ≡ before'
-    → record { steps = Step.Exec send reply ∷ []; given = Some Event.Quiet } ∷ before ≡ record { steps = Step.Exec send' reply' ∷ []; given = Some Event.Quiet } ∷ before'
+    → record { steps = run_step send reply ∷ []; given = Some Event.Quiet } ∷ before ≡ record { steps = run_step send' reply' ∷ []; given = Some Event.Quiet } ∷ before'
 ran_as e f g = cc
-
--- the same by what the code has at hand
-pub steps_answered : (s : State) (place : ℕ) (stays : Bool) (asked : Asked) (question : Question) (reply : Reply) (replicas : Standing) (requests : List Asked) (replies : List Replied) (past : Past) (count : ℕ) → IsSound s
-    → place < length s.requests → asked ≡ slice_index_or s.requests place asked → QuestionAt s place question
-    → IsAsked s.replicas asked.node question.partition question.ask reply replicas → AnswersInRange reply
-    → count ≡ s.answered + 1 → count < 2 ^ 32
-    → requests ≡ taken s.requests place stays
-    → replies ≡ s.replies ++ record { number = s.answered; node = asked.node; frame = record { correlation = question.correlation; partition = question.partition; body = Body.Answer reply } } ∷ []
-    → calls_of past ≡ record { steps = Step.Exec asked.number reply ∷ []; given = Some Event.Quiet } ∷ calls_of s.past
-    → RunsSoundly s place stays (record s { replicas = replicas; requests = requests; replies = replies; answered = count; past = past })
-steps_answered s place stays asked question reply replicas requests replies past count sound within here asks step range more small left added told_is =
-    let found : slice_get s.requests place ≡ Some asked = slice_get_read s.requests (length s.requests) place asked refl within here in
-    let reads : Reads (frame_in asked.frame) (Some question) = subst (λ o. AskedAs o question) found asks in
-    subst (λ l. RunsSoundly s place stays (record s { replicas = replicas; requests = l; replies = replies; answered = count; past = past })) (sym left)
-    (subst (λ l. RunsSoundly s place stays (record s { replicas = replicas; requests = taken s.requests place stays; replies = l; answered = count; past = past })) (sym added)
-    (steps_ran s place stays asked reads.0 question reply replicas past count sound within here reads.1 reads.2 reads.3 step range more small told_is))

@@ -1,21 +1,17 @@
 -- What holds of a state after a node was stopped or let run again, a request was refused, or an event that waited was given.
-use Rattle.std.proofs.Common.{◌≡◌, ℕ, ◌^◌, ◌<◌, ◌≤◌, arith, ◌==◌, Bool, true, false, ◌&&◌, ◌||◌, not, cond, List, [], ◌∷◌, ◌++◌, length, map, drop, Some, None, All, Option, slice_index_or, refl, sym, ap, ◌∙◌, subst}
+use Rattle.std.proofs.Common.{◌≡◌, ℕ, ◌^◌, ◌<◌, ◌≤◌, arith, ◌==◌, Bool, true, false, ◌&&◌, ◌||◌, not, List, [], ◌∷◌, ◌++◌, length, map, drop, Some, None, All, Option, slice_index_or, refl, sym, ap, ◌∙◌, subst}
 use Rattle.std.specs.Prelude.{filter, remove}
 use Rattle.std.proofs.lemmas.List.Elements.{All-filter, All-weaker, filter_passes}
 use Rattle.std.proofs.lemmas.List.Folds.{list_any-append}
 use Rattle.std.proofs.lemmas.Map.Views.{any-filter_same}
-use Rattle.cell_model.specs.declared.cell.Cell.{Cell}
-use Rattle.cell_model.specs.declared.cell.Cell.TheVariants.{Absent}
-use Rattle.cell_model.specs.Cells.{join}
 use Rattle.mem_fabric.specs.declared.flight.Asked.{Asked}
 use Rattle.mem_fabric.specs.declared.flight.Replied.{Replied}
 use Rattle.mem_fabric.specs.declared.past.Past.{Past}
 use Rattle.mem_fabric.specs.Network.{is_stopped, halted, requests_elsewhere, after_stop, after_given, IsOldest}
 use Rattle.mem_fabric.specs.Past.{calls_of, order_steps}
 use Rattle.mem_fabric.specs.Sound.{State, told_world, IsSent, IsGiven, is_among, AllShow, IsStateOf, IsSound, network_of, KeepsState, asked_number, replied_number}
-use Rattle.mem_fabric.proofs.Askings.{join_absent}
 use Rattle.mem_fabric.proofs.Sounds.{length-filtered, world_by, keeps, Steps, asked_elsewhere, replied_elsewhere, requests_left, replies_left}
-use Rattle.mem_fabric.proofs.Worlds.{goes_to, AllowedOn, same_cells, after_quiet}
+use Rattle.mem_fabric.proofs.Worlds.{goes_to, AllowedOn, AllStill, same_cells, after_quiet}
 use Rattle.world_model.specs.declared.order.Order.{Order}
 use Rattle.world_model.specs.declared.order.Told.{Told}
 use Rattle.world_model.specs.declared.step.Called.{Called}
@@ -23,7 +19,7 @@ use Rattle.world_model.specs.declared.step.Event.{Event}
 use Rattle.world_model.specs.declared.step.Step.{Step}
 use Rattle.world_model.specs.Record.{Took, Given}
 use Rattle.world_model.specs.Told.{items_of}
-use Rattle.world_model.specs.World.{World, Change, Made, Reply_made, Broken_made, Now_made, Shows, IsNext, arriving_change, after, Allowed}
+use Rattle.world_model.specs.World.{World, Made, Reply_made, Broken_made, Now_made, Shows, IsNext, after, Allowed}
 use Rattle.world_model.proofs.CellLaws.{number_true}
 
 -- ---- nodes among others
@@ -34,10 +30,10 @@ turned true false = refl
 turned false true = refl
 turned false false = refl
 
-among_more : (nodes : List ℕ) (node n : ℕ) → is_among (nodes ++ node ∷ []) n ≡ ((n == node) || is_among nodes n)
+pub among_more : (nodes : List ℕ) (node n : ℕ) → is_among (nodes ++ node ∷ []) n ≡ ((n == node) || is_among nodes n)
 among_more nodes node n = list_any-append (λ other. n == other) nodes (node ∷ []) ∙ turned (is_among nodes n) (n == node)
 
-among_less : (nodes : List ℕ) (node n : ℕ) → is_among (filter (λ other. not (other == node)) nodes) n ≡ (not (n == node) && is_among nodes n)
+pub among_less : (nodes : List ℕ) (node n : ℕ) → is_among (filter (λ other. not (other == node)) nodes) n ≡ (not (n == node) && is_among nodes n)
 among_less nodes node n = any-filter_same (λ other. n == other) (λ other. not (other == node)) (not (n == node)) (λ k e. ap (λ m. not (m == node)) (sym (number_true n k e))) nodes
 
 -- what stays in flight when a node stops is of other nodes
@@ -110,14 +106,14 @@ pub record Went (s s' : State) : Type 0 where
   pub run : KeepsState s s'
 
 -- nodes, what is in flight and what waits may be others after a call that made no request and no reply
-went : (s : State) (stopped : List ℕ) (requests : List Asked) (replies : List Replied) (queue : List Event) (past : Past) (call : Called) → IsSound s
-    → calls_of past ≡ call ∷ calls_of s.past → AllowedOn (told_world s.past) (items_of call)
-    → IsStateOf (goes_to (told_world s.past) (items_of call)) (record s { stopped = stopped; requests = requests; replies = replies; queue = queue; past = past })
+went : (s : State) (stopped : List ℕ) (requests : List Asked) (replies : List Replied) (queue : List Event) (past : Past) (steps : List Step) (given : Option Event) → IsSound s → AllStill steps
+    → calls_of past ≡ record { steps = steps; given = given } ∷ calls_of s.past → AllowedOn (told_world s.past) (items_of (record { steps = steps; given = given }))
+    → IsStateOf (goes_to (told_world s.past) (items_of (record { steps = steps; given = given }))) (record s { stopped = stopped; requests = requests; replies = replies; queue = queue; past = past })
     → length requests ≤ length s.requests → length replies ≤ length s.replies → length queue < 2 ^ 32
     → Went s (record s { stopped = stopped; requests = requests; replies = replies; queue = queue; past = past })
-went s stopped requests replies queue past call sound told_is allowed state few few' few_events =
+went s stopped requests replies queue past steps given sound still told_is allowed state few few' few_events =
     let s' : State = record s { stopped = stopped; requests = requests; replies = replies; queue = queue; past = past } in
-    let there : told_world past ≡ goes_to (told_world s.past) (items_of call) = world_by past s.past call _ told_is refl in
+    let there : told_world past ≡ goes_to (told_world s.past) (items_of (record { steps = steps; given = given })) = world_by past s.past _ _ told_is refl in
     let fewer = sound.few_requests in
     let fewer' = sound.few_replies in
     let sound' : IsSound s' = record {
@@ -128,9 +124,8 @@ went s stopped requests replies queue past call sound told_is allowed state few 
       small_sent = sound.small_sent;
       small_answered = sound.small_answered;
       shape = sound.shape;
-      standing = sound.standing;
     } in
-    record { sound = sound'; run = keeps s s' call sound sound' told_is allowed }
+    record { sound = sound'; run = keeps s s' steps given still told_is allowed }
 
 -- the same call, by equal parts
 pub ordered_as : {order order' : Order} {answer answer' : Told} {before before' : List Called} → order ≡ order' → answer ≡ answer' → before ≡ before'
@@ -147,8 +142,6 @@ first_of (e ∷ queue) event rest some first left = ap (λ x. x ∷ queue) (sym 
 given_state : (w : World) (s : State) (event : Event) (rest : List Event) (past : Past) → IsStateOf w s → AllShow w.waiting (event ∷ rest) → IsStateOf (after w (Given event)) (record s { queue = rest; past = past })
 given_state w s event rest past st shown =
     subst (λ (v : World). IsStateOf v (record s { queue = rest; past = past })) (sym (after_event w event rest shown)) (record {
-      cells = st.cells;
-      sure = st.sure;
       stopped = st.stopped;
       waits = shows_rest w.waiting event rest shown;
       clock = st.clock;
@@ -175,7 +168,7 @@ steps_given s event rest past sound queue told_is =
     let fewer = sound.few_events in
     let many : length s.queue ≡ length (event ∷ rest) = ap length queue in
     let by : Went s (record s { queue = rest; past = past }) =
-    went s s.stopped s.requests s.replies rest past (record { steps = []; given = Some event }) sound told_is (tt, given_allowed w event rest shown)
+    went s s.stopped s.requests s.replies rest past [] (Some event) sound tt told_is (tt, given_allowed w event rest shown)
     (given_state w s event rest past sound.state shown) (omega arith) (omega arith) (omega arith) in
     record {
       sound = by.sound;
@@ -189,8 +182,6 @@ steps_given s event rest past sound queue told_is =
 stopped_state : (w : World) (s : State) (node : ℕ) (past : Past) → IsStateOf w s
     → IsStateOf (after w (Took (Step.Stop node))) (record s { stopped = s.stopped ++ node ∷ []; requests = filter (asked_elsewhere node) s.requests; replies = filter (replied_elsewhere node) s.replies; queue = s.queue ++ Event.Broken node ∷ []; past = past })
 stopped_state w s node past st = record {
-  cells = λ n p id. st.cells n p id ∙ sym (join_absent (w.cells n p id));
-  sure = st.sure;
   stopped = λ n. ap (λ b. (n == node) || b) (st.stopped n) ∙ sym (among_more s.stopped node n);
   waits = shows_more w.waiting s.queue (Broken_made node) (Event.Broken node) st.waits refl;
   clock = st.clock;
@@ -216,7 +207,7 @@ steps_stopped s node past sound few told_is =
     let replies : List Replied = filter (replied_elsewhere node) s.replies in
     let queue : List Event = s.queue ++ Event.Broken node ∷ [] in
     let by : Went s (record s { stopped = s.stopped ++ node ∷ []; requests = requests; replies = replies; queue = queue; past = past }) =
-    went s (s.stopped ++ node ∷ []) requests replies queue past (record { steps = Step.Stop node ∷ []; given = None }) sound told_is (tt, tt)
+    went s (s.stopped ++ node ∷ []) requests replies queue past (Step.Stop node ∷ []) None sound (tt, refl) told_is (tt, tt)
     (stopped_state (told_world s.past) s node past sound.state) (length-filtered (asked_elsewhere node) s.requests) (length-filtered (replied_elsewhere node) s.replies) few in
     record {
       sound = by.sound;
@@ -243,7 +234,7 @@ steps_halted s node past sound calm told_is =
     let state : IsStateOf (after (after w (Took (Step.Stop node))) (Given (Event.Broken node))) (record halfway { queue = s.queue; past = past }) =
     subst (λ l. IsStateOf (after (after w (Took (Step.Stop node))) (Given (Event.Broken node))) (record halfway { queue = l; past = past })) (sym calm) given in
     let by : Went s (record s { stopped = s.stopped ++ node ∷ []; requests = requests; replies = replies; past = past }) =
-    went s (s.stopped ++ node ∷ []) requests replies s.queue past (record { steps = Step.Stop node ∷ []; given = Some (Event.Broken node) }) sound told_is
+    went s (s.stopped ++ node ∷ []) requests replies s.queue past (Step.Stop node ∷ []) (Some (Event.Broken node)) sound (tt, refl) told_is
     ((tt, tt), given_allowed (after w (Took (Step.Stop node))) (Event.Broken node) [] shown)
     state (length-filtered (asked_elsewhere node) s.requests) (length-filtered (replied_elsewhere node) s.replies) sound.few_events in
     record {
@@ -260,8 +251,6 @@ steps_halted s node past sound calm told_is =
 restarted_state : (w : World) (s : State) (node : ℕ) (past : Past) → IsStateOf w s
     → IsStateOf (after w (Took (Step.Restart node []))) (record s { stopped = filter (λ other. not (other == node)) s.stopped; past = past })
 restarted_state w s node past st = record {
-  cells = λ n p id. st.cells n p id ∙ same_cell (n == node) (w.cells n p id) (arriving_change (w.doubts n p) id);
-  sure = λ n p. none (n == node) (w.doubts n p) (st.sure n p);
   stopped = λ n. ap (λ b. not (n == node) && b) (st.stopped n) ∙ sym (among_less s.stopped node n);
   waits = st.waits;
   clock = st.clock;
@@ -272,20 +261,12 @@ restarted_state w s node past st = record {
   replies = st.replies;
   answering = running_on (λ (replied : Replied). replied.node) s.stopped node s.replies st.answering;
 }
-  where
-    same_cell : (b : Bool) (c other : Cell) → c ≡ join c (cond (b && false) other Absent)
-    same_cell true c other = sym (join_absent c)
-    same_cell false c other = sym (join_absent c)
-
-    none : (b : Bool) (doubt : Option Change) → doubt ≡ None → cond b None doubt ≡ None
-    none true doubt e = refl
-    none false doubt e = e
 
 pub steps_restarted : (s : State) (node : ℕ) (past : Past) → IsSound s → is_stopped (network_of s) node ≡ true
     → calls_of past ≡ record { steps = Step.Restart node [] ∷ []; given = None } ∷ calls_of s.past
     → Went s (record s { stopped = filter (λ other. not (other == node)) s.stopped; past = past })
 steps_restarted s node past sound stopped told_is =
-    went s (filter (λ other. not (other == node)) s.stopped) s.requests s.replies s.queue past (record { steps = Step.Restart node [] ∷ []; given = None }) sound told_is (tt, stopped)
+    went s (filter (λ other. not (other == node)) s.stopped) s.requests s.replies s.queue past (Step.Restart node [] ∷ []) None sound (tt, refl) told_is (tt, stopped)
     (restarted_state (told_world s.past) s node past sound.state) (omega arith) (omega arith) sound.few_events
 
 pub steps_resumed : (s : State) (node : ℕ) (past : Past) → IsSound s → is_stopped (network_of s) node ≡ true
@@ -294,5 +275,5 @@ pub steps_resumed : (s : State) (node : ℕ) (past : Past) → IsSound s → is_
 steps_resumed s node past sound stopped told_is =
     let w : World = told_world s.past in
     let s' : State = record s { stopped = filter (λ other. not (other == node)) s.stopped; past = past } in
-    went s (filter (λ other. not (other == node)) s.stopped) s.requests s.replies s.queue past (record { steps = Step.Restart node [] ∷ []; given = Some Event.Quiet }) sound told_is ((tt, stopped), tt)
+    went s (filter (λ other. not (other == node)) s.stopped) s.requests s.replies s.queue past (Step.Restart node [] ∷ []) (Some Event.Quiet) sound (tt, refl) told_is ((tt, stopped), tt)
     (subst (λ (v : World). IsStateOf v s') (sym (after_quiet (after w (Took (Step.Restart node []))))) (restarted_state w s node past sound.state)) (omega arith) (omega arith) sound.few_events

@@ -1,21 +1,20 @@
 -- Worlds after the items of a call, and worlds from other cells.
-use Rattle.std.proofs.Common.{◌≡◌, ℕ, ◌==◌, cond, List, [], ◌∷◌, ◌++◌, drop, Option, Some, refl, sym, ap, ◌∙◌, subst}
+use Rattle.std.proofs.Common.{◌≡◌, ℕ, ◌==◌, Bool, true, false, ◌&&◌, ◌||◌, cond, List, [], ◌∷◌, ◌++◌, drop, map, Option, Some, None, refl, sym, ap, ◌∙◌, subst}
+use Rattle.std.specs.List.{list_any}
 use Rattle.blob_id.specs.declared.id.BlobId.{BlobId}
-use Rattle.cell_model.specs.declared.ask.Reply.{Reply}
-use Rattle.cell_model.specs.declared.cell.Cell.TheVariants.{Absent}
+use Rattle.cell_model.specs.declared.cell.Cell.{Cell}
+use Rattle.cell_model.specs.declared.cell.Cell.TheVariants.{Absent, Held, Gone}
 use Rattle.cell_model.specs.Cells.{join}
 use Rattle.mem_fabric.specs.Network.{nothing_held}
-use Rattle.mem_fabric.specs.Runs.{Image, IsImageOf, LeadsTo}
-use Rattle.mem_fabric.proofs.Askings.{join_absent}
+use Rattle.mem_fabric.specs.Torn.{is_torn, has_torn}
 use Rattle.world_model.specs.declared.step.Called.{Called}
 use Rattle.world_model.specs.declared.step.Event.{Event}
 use Rattle.world_model.specs.declared.step.Step.{Step}
-use Rattle.world_model.specs.Fabric.{KeepsRun}
 use Rattle.world_model.specs.Frames.{frame_in}
 use Rattle.world_model.specs.Lists.{numbered}
 use Rattle.world_model.specs.Record.{Item, Marked, Drawn, Aimed, Took, Given, Withheld, Decided, Record}
 use Rattle.world_model.specs.Told.{items_of, told}
-use Rattle.world_model.specs.World.{Cells, World, Request, Answered, Made, Reply_made, Broken_made, Now_made, world, after, call_of, arriving_call, answered, made_by, Allowed, Run}
+use Rattle.world_model.specs.World.{Cells, World, Change, Answered, Made, Reply_made, Broken_made, Now_made, world, after, arriving_change, made_by, Allowed, Run}
 
 -- the world after items
 abbrev pub goes_to : World → Record → World
@@ -36,6 +35,11 @@ run_on opening [] before r a = r
 run_on opening (item ∷ items) before r a = (run_on opening items before r a.0, subst (λ (w : World). Allowed w item) (sym (world_on opening items before)) a.1)
 
 -- ---- after the items of a call
+
+pub join_absent : (c : Cell) → join c Absent ≡ c
+join_absent Absent = refl
+join_absent (Held b) = refl
+join_absent Gone = refl
 
 pub same_cells : (c : Cells) → (λ (n p : ℕ) (id : BlobId). join (c n p id) Absent) ≡ c
 same_cells c = λ i n p id. join_absent (c n p id) i
@@ -58,13 +62,6 @@ pub after_cut : (w : World) (node : ℕ) → w.waiting ≡ [] → after (after w
 after_cut w node none =
     ap (λ (c : Cells). record w { cells = c; waiting = drop 1 (w.waiting ++ Broken_made node ∷ []) }) (same_twice w.cells)
     ∙ ap (λ (l : List Made). record w { waiting = l }) (ap (λ (l : List Made). drop 1 (l ++ Broken_made node ∷ [])) none ∙ sym none)
-
-pub after_ran : (w : World) (send : ℕ) (request : Request) (reply : Reply) → numbered w.sent send ≡ Some request
-    → after (after w (Took (Step.Exec send reply))) (Given Event.Quiet)
-    ≡ record w { cells = λ n p id. join (w.cells n p id) (arriving_call (call_of (Some request)) reply n p id); replies = record { request = request; reply = reply } ∷ w.replies }
-after_ran w send request reply is =
-    after_quiet (after w (Took (Step.Exec send reply)))
-    ∙ ap (λ (o : Option Request). record w { cells = λ n p id. join (w.cells n p id) (arriving_call (call_of o) reply n p id); replies = answered o reply w.replies }) is
 
 made_one : (answer : Answered) → answer.request.from ≡ 0 → made_by (Some answer) ≡ Reply_made answer ∷ []
 made_one answer e = ap (λ (from : ℕ). cond (from == 0) (Reply_made answer ∷ []) []) e
@@ -107,29 +104,168 @@ apart_item w c (Aimed correlation part attempt) = refl
 apart_item w c (Withheld node frame) = refl
 apart_item w c (Decided operation outcome) = refl
 
-apart : (a b : Cells) (items : Record) → world a items ≡ record (world b items) { cells = (world a items).cells }
+pub apart : (a b : Cells) (items : Record) → world a items ≡ record (world b items) { cells = (world a items).cells }
 apart a b [] = refl
 apart a b (item ∷ before) =
     let earlier : world a (item ∷ before) ≡ after (record (world b before) { cells = (world a before).cells }) item = ap (λ (w : World). after w item) (apart a b before) in
     earlier ∙ apart_item (world b before) (world a before).cells item ∙ ap (λ (w : World). record (world b (item ∷ before)) { cells = w.cells }) (sym earlier)
 
--- worlds with the same cells after the same items are the same
-pub same_world : (a b : Cells) (items : Record) → ((n p : ℕ) (id : BlobId) → (world a items).cells n p id ≡ (world b items).cells n p id) → world a items ≡ world b items
-same_world a b items same = apart a b items ∙ ap (λ (c : Cells). record (world b items) { cells = c }) (λ i n p id. same n p id i)
+goes_apart : (w : World) (c : Cells) (items : Record) → goes_to (record w { cells = c }) items ≡ record (goes_to w items) { cells = (goes_to (record w { cells = c }) items).cells }
+goes_apart w c [] = refl
+goes_apart w c (item ∷ before) =
+    let there : World = goes_to (record w { cells = c }) before in
+    let earlier : goes_to (record w { cells = c }) (item ∷ before) ≡ after (record (goes_to w before) { cells = there.cells }) item = ap (λ (v : World). after v item) (goes_apart w c before) in
+    earlier ∙ apart_item (goes_to w before) there.cells item ∙ ap (λ (v : World). record (goes_to w (item ∷ before)) { cells = v.cells }) (sym earlier)
+
+-- ---- steps that leave what is held and in doubt
+
+abbrev pub is_still : Step → Bool
+is_still (Step.Exec send reply) = false
+is_still (Step.Torn send) = false
+is_still (Step.Restart node []) = true
+is_still (Step.Restart node (p ∷ done)) = false
+is_still (Step.Merge node partition reply place torn) = false
+is_still _ = true
+
+abbrev pub AllStill : List Step → Type 0
+AllStill [] = Unit {0}
+AllStill (step ∷ steps) = AllStill steps × (is_still step ≡ true)
+
+step_cells : (w : World) (step : Step) → is_still step ≡ true → (after w (Took step)).cells ≡ w.cells
+step_cells w (Step.Send from node frame) still = same_cells w.cells
+step_cells w (Step.Refused node frame) still = same_cells w.cells
+step_cells w (Step.Exec send reply) still = absurd cc
+step_cells w (Step.Torn send) still = absurd cc
+step_cells w (Step.Hand reply) still = same_cells w.cells
+step_cells w (Step.Now ms) still = same_cells w.cells
+step_cells w (Step.Cut node) still = same_cells w.cells
+step_cells w (Step.Stop node) still = same_cells w.cells
+step_cells w (Step.Restart node []) still = λ i n p id. same_cell (n == node) (w.cells n p id) (arriving_change (w.doubts n p) id) i
+  where
+    same_cell : (b : Bool) (c other : Cell) → join c (cond (b && false) other Absent) ≡ c
+    same_cell true c other = join_absent c
+    same_cell false c other = join_absent c
+step_cells w (Step.Restart node (p ∷ done)) still = absurd cc
+step_cells w (Step.Merge node partition reply place torn) still = absurd cc
+step_cells w (Step.Compact node partition reply) still = same_cells w.cells
+
+steps_cells : (w : World) (steps : List Step) → AllStill steps → (goes_to w (map Took steps)).cells ≡ w.cells
+steps_cells w [] still = refl
+steps_cells w (step ∷ steps) still = step_cells (goes_to w (map Took steps)) step still.1 ∙ steps_cells w steps still.0
+
+call_cells : (w : World) (steps : List Step) (given : Option Event) → AllStill steps → (goes_to w (items_of (record { steps = steps; given = given }))).cells ≡ w.cells
+call_cells w steps None still = steps_cells w steps still
+call_cells w steps (Some event) still = same_cells (goes_to w (map Took steps)).cells ∙ steps_cells w steps still
+
+step_allowed : (w : World) (c : Cells) (step : Step) → is_still step ≡ true → Allowed w (Took step) → Allowed (record w { cells = c }) (Took step)
+step_allowed w c (Step.Send from node frame) still a = a
+step_allowed w c (Step.Refused node frame) still a = a
+step_allowed w c (Step.Exec send reply) still a = absurd cc
+step_allowed w c (Step.Torn send) still a = absurd cc
+step_allowed w c (Step.Hand reply) still a = a
+step_allowed w c (Step.Now ms) still a = a
+step_allowed w c (Step.Cut node) still a = a
+step_allowed w c (Step.Stop node) still a = a
+step_allowed w c (Step.Restart node done) still a = a
+step_allowed w c (Step.Merge node partition reply place torn) still a = absurd cc
+step_allowed w c (Step.Compact node partition reply) still a = a
+
+event_allowed : (w : World) (c : Cells) (event : Event) → Allowed w (Given event) → Allowed (record w { cells = c }) (Given event)
+event_allowed w c (Event.Reply node frame) a = a
+event_allowed w c (Event.Broken node) a = a
+event_allowed w c (Event.Now ms) a = a
+event_allowed w c Event.Quiet a = a
+
+steps_allowed : (w : World) (c : Cells) (steps : List Step) → AllStill steps → AllowedOn w (map Took steps) → AllowedOn (record w { cells = c }) (map Took steps)
+steps_allowed w c [] still a = tt
+steps_allowed w c (step ∷ steps) still a = (
+  steps_allowed w c steps still.0 a.0,
+  subst (λ (v : World). Allowed v (Took step)) (sym (goes_apart w c (map Took steps)))
+      (step_allowed (goes_to w (map Took steps)) (goes_to (record w { cells = c }) (map Took steps)).cells step still.1 a.1),
+)
+
+call_allowed : (w : World) (c : Cells) (steps : List Step) (given : Option Event) → AllStill steps → AllowedOn w (items_of (record { steps = steps; given = given })) → AllowedOn (record w { cells = c }) (items_of (record { steps = steps; given = given }))
+call_allowed w c steps None still a = steps_allowed w c steps still a
+call_allowed w c steps (Some event) still a = (
+  steps_allowed w c steps still a.0,
+  subst (λ (v : World). Allowed v (Given event)) (sym (goes_apart w c (map Took steps)))
+      (event_allowed (goes_to w (map Took steps)) (goes_to (record w { cells = c }) (map Took steps)).cells event a.1),
+)
+
+calm_step : (step : Step) → is_still step ≡ true → is_torn step ≡ false
+calm_step (Step.Send from node frame) still = refl
+calm_step (Step.Refused node frame) still = refl
+calm_step (Step.Exec send reply) still = refl
+calm_step (Step.Torn send) still = absurd cc
+calm_step (Step.Hand reply) still = refl
+calm_step (Step.Now ms) still = refl
+calm_step (Step.Cut node) still = refl
+calm_step (Step.Stop node) still = refl
+calm_step (Step.Restart node done) still = refl
+calm_step (Step.Merge node partition reply place torn) still = absurd cc
+calm_step (Step.Compact node partition reply) still = refl
+
+calm_steps : (steps : List Step) → AllStill steps → list_any is_torn steps ≡ false
+calm_steps [] still = refl
+calm_steps (step ∷ steps) still = rw (calm_step step still.1, calm_steps steps still.0) refl
 
 -- ---- runs
 
--- a call that is allowed where nothing was held at first is allowed from wherever the calls before were a run to these cells
-pub keeps_run : (calls : List Called) (image : Image) (call : Called) (image' : Image) → IsImageOf image (world nothing_held (told calls)) → AllowedOn (world nothing_held (told calls)) (items_of call)
-    → IsImageOf image' (world nothing_held (told (call ∷ calls))) → KeepsRun (λ opening. LeadsTo opening calls image) (λ opening. LeadsTo opening (call ∷ calls) image')
-keeps_run calls image call image' is allowed is' = λ opening leads.
-    let same : world opening (told calls) ≡ world nothing_held (told calls) = same_world opening nothing_held (told calls) (λ n p id. sym (leads.reached.cells n p id) ∙ is.cells n p id) in
-    let after_call : world opening (told (call ∷ calls)) ≡ world nothing_held (told (call ∷ calls)) =
-    world_on opening (items_of call) (told calls) ∙ ap (λ (w : World). goes_to w (items_of call)) same ∙ sym (world_on nothing_held (items_of call) (told calls)) in
-    record {
-      run = run_on opening (items_of call) (told calls) leads.run (subst (λ (w : World). AllowedOn w (items_of call)) (sym same) allowed);
-      reached = subst (λ (w : World). IsImageOf image' w) (sym after_call) is';
-    }
+-- a call of such steps, allowed where nothing was held at first, is allowed from wherever the calls before were a run
+pub run_keeps : (opening : Cells) (calls : List Called) (steps : List Step) (given : Option Event) → AllStill steps → AllowedOn (world nothing_held (told calls)) (items_of (record { steps = steps; given = given }))
+    → Run opening (told calls) → Run opening (told (record { steps = steps; given = given } ∷ calls))
+run_keeps opening calls steps given still allowed run =
+    let w : World = world nothing_held (told calls) in
+    run_on opening (items_of (record { steps = steps; given = given })) (told calls) run
+    (subst (λ (v : World). AllowedOn v (items_of (record { steps = steps; given = given }))) (sym (apart opening nothing_held (told calls))) (call_allowed w (world opening (told calls)).cells steps given still allowed))
+
+pub cells_keep : (opening : Cells) (calls : List Called) (steps : List Step) (given : Option Event) → AllStill steps → (world opening (told (record { steps = steps; given = given } ∷ calls))).cells ≡ (world opening (told calls)).cells
+cells_keep opening calls steps given still =
+    ap (λ (v : World). v.cells) (world_on opening (items_of (record { steps = steps; given = given })) (told calls)) ∙ call_cells (world opening (told calls)) steps given still
+
+pub torn_keeps : (calls : List Called) (steps : List Step) (given : Option Event) → AllStill steps → has_torn (record { steps = steps; given = given } ∷ calls) ≡ has_torn calls
+torn_keeps calls steps given still = ap (λ (b : Bool). b || has_torn calls) (calm_steps steps still)
+
+-- ---- doubts
+
+sure_step : (w : World) (step : Step) → ((n p : ℕ) → w.doubts n p ≡ None) → is_torn step ≡ false → (n p : ℕ) → (after w (Took step)).doubts n p ≡ None
+sure_step w (Step.Send from node frame) sure calm n p = sure n p
+sure_step w (Step.Refused node frame) sure calm n p = sure n p
+sure_step w (Step.Exec send reply) sure calm n p = sure n p
+sure_step w (Step.Torn send) sure calm n p = absurd cc
+sure_step w (Step.Hand reply) sure calm n p = sure n p
+sure_step w (Step.Now ms) sure calm n p = sure n p
+sure_step w (Step.Cut node) sure calm n p = sure n p
+sure_step w (Step.Stop node) sure calm n p = sure n p
+sure_step w (Step.Restart node done) sure calm n p = none (n == node) (w.doubts n p) (sure n p)
+  where
+    none : (b : Bool) (doubt : Option Change) → doubt ≡ None → cond b None doubt ≡ None
+    none true doubt e = refl
+    none false doubt e = e
+sure_step w (Step.Merge node partition reply place true) sure calm n p = absurd cc
+sure_step w (Step.Merge node partition reply place false) sure calm n p = sure n p
+sure_step w (Step.Compact node partition reply) sure calm n p = sure n p
+
+neither : (a b : Bool) → (a || b) ≡ false → (a ≡ false) × (b ≡ false)
+neither true b e = absurd cc
+neither false b e = (refl, e)
+
+sure_steps : (w : World) (steps : List Step) → ((n p : ℕ) → w.doubts n p ≡ None) → list_any is_torn steps ≡ false → (n p : ℕ) → (goes_to w (map Took steps)).doubts n p ≡ None
+sure_steps w [] sure calm = sure
+sure_steps w (step ∷ steps) sure calm =
+    let both = neither (is_torn step) (list_any is_torn steps) calm in
+    sure_step (goes_to w (map Took steps)) step (sure_steps w steps sure both.1) both.0
+
+sure_call : (w : World) (steps : List Step) (given : Option Event) → ((n p : ℕ) → w.doubts n p ≡ None) → list_any is_torn steps ≡ false → (n p : ℕ) → (goes_to w (items_of (record { steps = steps; given = given }))).doubts n p ≡ None
+sure_call w steps None sure calm = sure_steps w steps sure calm
+sure_call w steps (Some event) sure calm = sure_steps w steps sure calm
+
+-- nothing is in doubt behind calls that leave nothing so
+pub none_in_doubt : (opening : Cells) (calls : List Called) → has_torn calls ≡ false → (n p : ℕ) → (world opening (told calls)).doubts n p ≡ None
+none_in_doubt opening [] calm n p = refl
+none_in_doubt opening (call ∷ calls) calm n p =
+    let both = neither (list_any is_torn call.steps) (has_torn calls) calm in
+    ap (λ (v : World). v.doubts n p) (world_on opening (items_of call) (told calls)) ∙ sure_call (world opening (told calls)) call.steps call.given (none_in_doubt opening calls both.1) both.0 n p
 
 -- from equal cells, calls wait for the same events
 pub waits_alike : (opening : Cells) (items : Record) → (world opening items).waiting ≡ (world nothing_held items).waiting

@@ -2,8 +2,10 @@ pub mod Network
 pub mod Played
 pub mod Past
 pub mod Asking
-pub mod Slots
-pub mod Standing
+pub mod Torn
 pub mod Runs
 pub mod Sound
+pub mod Going
+pub mod Acting
+pub mod GoingLaws
 pub mod PlayedLaws

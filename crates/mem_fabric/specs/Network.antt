@@ -1,16 +1,18 @@
--- A network in memory: what it told, what is in flight, and what a move makes of it.
-use Rattle.std.specs.Prelude.{◌≡◌, ◌⊎◌, ℕ, ◌+◌, ◌-◌, ◌%◌, ◌^◌, ◌<◌, min, ◌==◌, Bool, true, false, ◌&&◌, nat_le, nat_lt, not, cond, List, [], ◌∷◌, ◌++◌, length, drop, filter, Option, Some, None, slice_index, remove, Result, Ok, Err}
-use Rattle.std.specs.Option.{is_some}
+-- The network of the nodes: what it told, what is in flight, and what a move makes of it.
+use Rattle.std.specs.Prelude.{◌≡◌, ℕ, ◌+◌, ◌-◌, ◌%◌, ◌^◌, ◌<◌, ◌≢◌, min, ◌==◌, Bool, true, false, ◌&&◌, nat_le, not, cond, List, [], ◌∷◌, ◌++◌, length, drop, filter, Option, Some, None, slice_index, remove, Result, Ok, Err}
 use Rattle.blob_id.specs.declared.memory.Memory.{Memory}
 use Rattle.cell_model.specs.declared.ask.Reply.{Reply}
 use Rattle.cell_model.specs.declared.cell.Cell.TheVariants.{Absent}
-use Rattle.cell_model.specs.Asks.{id_of, Answers, IsRefusal}
+use Rattle.cell_model.specs.declared.ask.Reply.TheVariants as replied
+use Rattle.cell_model.specs.Asks.{CanAnswer}
+use Rattle.lab_nodes.specs.Nodes.{stands}
 use Rattle.req_frame.specs.declared.frame.Body.{Body}
 use Rattle.req_frame.specs.declared.frame.Frame.{Frame}
 use Rattle.req_frame.specs.Spelling.{frame_text}
 use Rattle.world_model.specs.declared.moves.Move.{Move}
 use Rattle.world_model.specs.declared.moves.Move.TheVariants as moves
 use Rattle.world_model.specs.declared.order.Order.{Order}
+use Rattle.world_model.specs.declared.order.PullCause.{PullCause}
 use Rattle.world_model.specs.declared.order.Told.{Told}
 use Rattle.world_model.specs.declared.shape.Shape.{Shape}
 use Rattle.world_model.specs.declared.step.Called.{Called}
@@ -19,11 +21,10 @@ use Rattle.world_model.specs.declared.step.Event.TheVariants as events
 use Rattle.world_model.specs.declared.step.Step.{Step}
 use Rattle.world_model.specs.declared.step.Step.TheVariants as steps
 use Rattle.world_model.specs.Lists.{numbered}
-use Rattle.world_model.specs.Shape.{replica_of}
 use Rattle.world_model.specs.Told.{told}
-use Rattle.world_model.specs.World.{Cells, Request, Answered, World, world, Call, call_in}
+use Rattle.world_model.specs.World.{Cells, Request, Answered, World, world, Call, call_at}
 
--- no replica holds anything
+-- no replica holds anything: what a network tells, and what comes of it, doesn't depend on what its replicas held
 abbrev pub nothing_held : Cells
 nothing_held = λ n p id. Absent
 
@@ -68,28 +69,9 @@ Within (Some place) count = place < count
 abbrev pub taken : {A : Type 0} → List A → ℕ → Bool → List A
 taken items place stays = cond stays items (remove items place)
 
--- whether a frame asks something of a replica; fetches aren't exchanged
-abbrev pub is_asking : Body → Bool
-is_asking (Body.Put id blob) = true
-is_asking (Body.Get id) = true
-is_asking (Body.Peek id) = true
-is_asking (Body.Delete id at) = true
-is_asking (Body.Fetch id) = false
-is_asking (Body.Answer reply) = false
-
--- what a frame asks of a replica, at a node
-abbrev pub asked_in : ℕ → Option Frame → Option Call
-asked_in node None = None
-asked_in node (Some f) = cond (is_asking f.body) (call_in node (Some f)) None
-
--- what a request asks of a replica, where it asks something
-abbrev pub asked_of : Option Request → Option Call
-asked_of None = None
-asked_of (Some request) = asked_in request.node request.frame
-
 -- what the request of a number asks
 abbrev pub asked_by : Network → ℕ → Option Call
-asked_by n send = asked_of (numbered (world_of n).sent send)
+asked_by n send = call_at (world_of n) send
 
 -- the clock goes on, and stays at its end
 abbrev pub ticked : Network → ℕ → Moved
@@ -101,11 +83,20 @@ ticked n ms =
 abbrev pub quiet : List ℕ → List ℕ → Moved
 quiet requests replies = record { steps = []; event = events.Quiet; requests = requests; replies = replies }
 
+-- whether a reply says that the replica's device failed
+abbrev pub is_fault : Reply → Bool
+is_fault replied.Fault = true
+is_fault _ = false
+
+-- what is told of a request that was run, by its reply: where the device failed, the request may have taken effect or not
+abbrev pub run_step : ℕ → Reply → Step
+run_step send reply = cond (is_fault reply) (steps.Torn send) (steps.Exec send reply)
+
 -- a request is run: one that asks something is given this reply, which is in flight from then on
 abbrev pub answered : Network → Reply → ℕ → List ℕ → Option Call → Moved
 answered n reply send requests None = quiet requests n.replies
 answered n reply send requests (Some call) = record {
-  steps = steps.Exec send reply ∷ [];
+  steps = run_step send reply ∷ [];
   event = events.Quiet;
   requests = requests;
   replies = n.replies ++ length (world_of n).replies ∷ [];
@@ -200,22 +191,24 @@ stops n node = cond (is_node n.shape node && not (is_stopped n node)) (halted n 
 abbrev pub resumed : Network → ℕ → Moved
 resumed n node = record { steps = steps.Restart node [] ∷ []; event = events.Quiet; requests = n.requests; replies = n.replies }
 
-abbrev pub restarts : Network → ℕ → Moved
-restarts n node = cond (is_node n.shape node && is_stopped n node) (resumed n node) (ticked n 0)
+-- what comes of it by whether its disks were opened: where they weren't, it stays stopped
+abbrev pub restarts : Network → ℕ → (opened : Bool) → Moved
+restarts n node opened = cond (is_node n.shape node && is_stopped n node) (cond opened (resumed n node) (quiet n.requests n.replies)) (ticked n 0)
 
--- What a move does; this is the reply, where it runs a request that asks something. Other moves are those on nothing.
-abbrev pub moved : Network → Reply → Move → Moved
-moved n reply (moves.Run k) = ran n reply (place_among k (length n.requests)) false
-moved n reply (moves.RunAgain k) = ran n reply (place_among k (length n.requests)) true
-moved n reply (moves.Drop k) = dropped n (place_among k (length n.requests))
-moved n reply (moves.Hand k) = handed n (place_among k (length n.replies)) false
-moved n reply (moves.HandAgain k) = handed n (place_among k (length n.replies)) true
-moved n reply (moves.DropReply k) = dropped_reply n (place_among k (length n.replies))
-moved n reply (moves.Tick ms) = ticked n ms
-moved n reply (moves.Cut node) = cut n node
-moved n reply (moves.Stop node) = stops n node
-moved n reply (moves.Restart node) = restarts n node
-moved n reply _ = ticked n 0
+-- What a move does; this is the reply, where it runs a request that asks something, and whether the disks were opened, where it restarts a node.
+-- Other moves are those on nothing.
+abbrev pub moved : Network → Reply → (opened : Bool) → Move → Moved
+moved n reply opened (moves.Run k) = ran n reply (place_among k (length n.requests)) false
+moved n reply opened (moves.RunAgain k) = ran n reply (place_among k (length n.requests)) true
+moved n reply opened (moves.Drop k) = dropped n (place_among k (length n.requests))
+moved n reply opened (moves.Hand k) = handed n (place_among k (length n.replies)) false
+moved n reply opened (moves.HandAgain k) = handed n (place_among k (length n.replies)) true
+moved n reply opened (moves.DropReply k) = dropped_reply n (place_among k (length n.replies))
+moved n reply opened (moves.Tick ms) = ticked n ms
+moved n reply opened (moves.Cut node) = cut n node
+moved n reply opened (moves.Stop node) = stops n node
+moved n reply opened (moves.Restart node) = restarts n node opened
+moved n reply opened _ = ticked n 0
 
 -- the network after a move, told as one call
 abbrev pub after_move : Network → Moved → Network
@@ -232,19 +225,10 @@ runs n (moves.Run k) = runs_at n (place_among k (length n.requests))
 runs n (moves.RunAgain k) = runs_at n (place_among k (length n.requests))
 runs n _ = None
 
--- a replica of the partition stands on the node
-abbrev pub has_replica : Shape → ℕ → ℕ → Bool
-has_replica shape node partition = nat_lt partition shape.partitions && is_some (replica_of shape partition node)
-
-abbrev pub stands : Option Shape → ℕ → ℕ → Bool
-stands None node partition = false
-stands (Some shape) node partition = has_replica shape node partition
-
--- A node without such a replica says so. Any other replies what the table says at the cell, or that memory ran out.
+-- A node without such a replica says so. Any other replies what the ask can be answered.
 pub record MayAnswer (n : Network) (call : Call) (reply : Reply) : Type 0 where
-  pub none : stands n.shape call.node call.partition ≡ false → reply ≡ Reply.NoPartition
-  pub some : stands n.shape call.node call.partition ≡ true
-      → Answers ((world_of n).cells call.node call.partition (id_of call.ask)) call.ask reply ⊎ (reply ≡ Reply.Memory) × IsRefusal call.ask reply
+  pub none : stands n.shape call.node call.partition ≡ false → reply ≡ replied.NoPartition
+  pub some : stands n.shape call.node call.partition ≡ true → CanAnswer call.ask reply × (reply ≢ replied.NoPartition)
 
 abbrev pub MayGive : Network → Option Call → Reply → Type 0
 MayGive n None reply = Unit {0}
@@ -253,9 +237,10 @@ MayGive n (Some call) reply = MayAnswer n call reply
 -- the move was made, and its event given
 pub record Makes (old : Network) (chosen : Move) (event : Event) (new : Network) : Type 0 where
   pub reply : Reply
+  pub opened : Bool
   pub may : MayGive old (runs old chosen) reply
-  pub gave : (moved old reply chosen).event ≡ event
-  pub network : new ≡ after_move old (moved old reply chosen)
+  pub gave : (moved old reply opened chosen).event ≡ event
+  pub network : new ≡ after_move old (moved old reply opened chosen)
 
 -- the move was made, or for want of memory nothing was done
 abbrev pub Does : Network → Move → Network → Result Event Memory → Type 0
@@ -290,11 +275,20 @@ after_stop n node = record n {
   queue = n.queue ++ events.Broken node ∷ [];
 }
 
--- what an order is answered: a node that is in that state already stays in it
-abbrev pub answer_to : Network → Order → Told
-answer_to n (Order.Stop node) = cond (is_stopped n node) Told.Already Told.Done
-answer_to n (Order.Restart node) = cond (is_stopped n node) Told.Done Told.Already
-answer_to n order = Told.Nothing
+-- What a node that is to run again is told: it runs, its disks aren't opened, or they can't be read, or there is no memory to open them in.
+abbrev pub MayRestart : (stopped : Bool) → ℕ → Told → Type 0
+MayRestart false node answer = answer ≡ Told.Already
+MayRestart true node Told.Done = Unit {0}
+MayRestart true node (Told.Refused refusal) = refusal.node ≡ node
+MayRestart true node (Told.Stuck PullCause.Fault) = Unit {0}
+MayRestart true node (Told.Stuck PullCause.Memory) = Unit {0}
+MayRestart true node answer = ⊥
+
+-- what an order may be answered: a node that is in that state already stays in it
+abbrev pub MayBeTold : Network → Order → Told → Type 0
+MayBeTold n (Order.Stop node) answer = answer ≡ cond (is_stopped n node) Told.Already Told.Done
+MayBeTold n (Order.Restart node) answer = MayRestart (is_stopped n node) node answer
+MayBeTold n order answer = ⊥
 
 -- the network after an order that was answered so
 abbrev pub after_order : Network → Order → Told → Network
@@ -302,9 +296,9 @@ after_order n (Order.Stop node) Told.Done = after_stop n node
 after_order n (Order.Restart node) Told.Done = after_steps n (steps.Restart node [] ∷ [])
 after_order n order answer = after_steps n []
 
--- an order was carried out, or its node was in that state
+-- an order was carried out, or came to nothing
 pub record Obeys (old : Network) (order : Order) (answer : Told) (new : Network) : Type 0 where
-  pub answer_is : answer ≡ answer_to old order
+  pub may : MayBeTold old order answer
   pub network : new ≡ after_order old order answer
 
 -- the event is the oldest that waits

@@ -1,4 +1,4 @@
--- Acts of a network in memory follow one another.
+-- Acts of a network follow one another.
 use Rattle.std.specs.Prelude.{◌≡◌, Bool, true, List, [], ◌∷◌, ◌++◌, Some, refl}
 use Rattle.std.proofs.Common.{ap, sym, ◌∙◌, subst, append_assoc, append-nil}
 use Rattle.world_model.specs.declared.moves.Move.{Move}
@@ -26,7 +26,7 @@ did_on (Opens shape ∷ later) before a b = did_on later before a b
 did_on (Sends node frame ∷ later) before a b = did_on later before a b
 did_on (Orders order answer ∷ later) before a b = did_on later before a b
 did_on (Gives event ∷ later) before a b = did_on later before a b
-did_on (Moves chosen reply ∷ later) before a b = did_on later before a b
+did_on (Moves chosen reply opened ∷ later) before a b = did_on later before a b
 did_on (Fails chosen ∷ later) before a b = absurd a
 
 by_nothing : (given : List Move) (n : Network) → PlaysBy [] given n given n

@@ -1,23 +1,21 @@
--- Runs that lead to what the replicas of a network hold.
-use Rattle.std.specs.Prelude.{◌≡◌, ℕ, Bool, List, Option}
-use Rattle.blob_id.specs.declared.id.BlobId.{BlobId}
+-- Runs that lead to what the nodes hold.
+use Rattle.std.specs.Prelude.{◌≡◌, ℕ, false, List}
+use Rattle.disk_core.specs.Content.{Content}
+use Rattle.disk_core.specs.Homes.{Home}
+use Rattle.lab_nodes.specs.Nodes.{Holds, NodesState}
+use Rattle.mem_fabric.specs.Torn.{has_torn}
+use Rattle.world_model.specs.declared.shape.Shape.{Shape}
 use Rattle.world_model.specs.declared.step.Called.{Called}
 use Rattle.world_model.specs.Told.{told}
-use Rattle.world_model.specs.World.{Cells, Change, World, world, Run}
+use Rattle.world_model.specs.World.{Cells, world, Run}
 
--- what the replicas of a network hold, what is in doubt there, and which nodes are stopped
-pub record Image : Type 0 where
-  pub cells : Cells
-  pub doubts : ℕ → ℕ → Option Change
-  pub stopped : ℕ → Bool
+-- Whether disks tell, what they tell, and where bays keep them.
+module _ {B D : Type 0} (tells : Type 0) (content : D → Content) (home : B → Home D) where
+  -- what was told is a run from these cells, and leads to what the nodes hold
+  pub record LeadsTo (shape : Shape) (folder : List ℕ) (opening : Cells) (calls : List Called) (nodes : NodesState B D) : Type 0 where
+    pub run : Run opening (told calls)
+    pub holds : Holds content home shape folder ((world opening (told calls)).cells) nodes
 
--- the image is that of the world
-pub record IsImageOf (image : Image) (w : World) : Type 0 where
-  pub cells : (n p : ℕ) (id : BlobId) → image.cells n p id ≡ w.cells n p id
-  pub doubts : (n p : ℕ) → image.doubts n p ≡ w.doubts n p
-  pub stopped : (n : ℕ) → image.stopped n ≡ w.stopped n
-
--- what was told is a run from these cells, and leads to this image
-pub record LeadsTo (opening : Cells) (calls : List Called) (image : Image) : Type 0 where
-  pub run : Run opening (told calls)
-  pub reached : IsImageOf image (world opening (told calls))
+  -- Where disks tell, what was told is such a run, unless it leaves something in doubt.
+  abbrev pub RunsFrom : List Called → NodesState B D → Shape → List ℕ → Cells → Type 0
+  RunsFrom calls nodes shape folder opening = tells → has_torn calls ≡ false → LeadsTo shape folder opening calls nodes

@@ -1,7 +1,6 @@
--- What the nodes and what is in flight have to do with what was told.
+-- What is in flight and who is stopped, and what that has to do with what was told.
 use Rattle.std.specs.Prelude.{◌≡◌, ℕ, ◌<◌, ◌≤◌, ◌^◌, ◌==◌, Bool, false, List, [], ◌∷◌, length, map, All, slice_get, Option, Some, None}
 use Rattle.std.specs.List.{list_any}
-use Rattle.blob_id.specs.declared.id.BlobId.{BlobId}
 use Rattle.cell_model.specs.declared.ask.Reply.{Reply}
 use Rattle.req_frame.specs.declared.frame.Body.{Body}
 use Rattle.req_frame.specs.declared.frame.Frame.{Frame}
@@ -11,24 +10,20 @@ use Rattle.mem_fabric.specs.declared.asking.Question.{Question}
 use Rattle.mem_fabric.specs.declared.flight.Asked.{Asked}
 use Rattle.mem_fabric.specs.declared.flight.Replied.{Replied}
 use Rattle.mem_fabric.specs.declared.past.Past.{Past, Begun}
-use Rattle.mem_fabric.specs.Slots.{Standing}
-use Rattle.mem_fabric.specs.Network.{Network, nothing_held, stands, MayGive, runs_at, ran, after_move}
+use Rattle.mem_fabric.specs.Network.{Network, nothing_held, MayGive, runs_at, ran, after_move}
 use Rattle.mem_fabric.specs.Past.{calls_of}
-use Rattle.mem_fabric.specs.Runs.{Image, LeadsTo}
-use Rattle.mem_fabric.specs.Standing.{stands_at, cells_of, none_standing}
+use Rattle.mem_fabric.specs.Torn.{has_torn}
 use Rattle.world_model.specs.declared.shape.Shape.{Shape}
 use Rattle.world_model.specs.declared.step.Event.{Event}
-use Rattle.world_model.specs.Fabric.{KeepsRun}
 use Rattle.world_model.specs.Frames.{frame_in}
 use Rattle.world_model.specs.Lists.{numbered}
 use Rattle.world_model.specs.Shape.{IsShape}
 use Rattle.world_model.specs.Told.{told}
-use Rattle.world_model.specs.World.{Cells, World, Request, Answered, Made, Shows, world}
+use Rattle.world_model.specs.World.{Cells, World, Request, Answered, Made, Shows, world, Run}
 
--- the nodes and which of them are stopped, what is in flight, the events that wait, the counts, the clock, and what was told
+-- what the network was opened for, which nodes are stopped, what is in flight, the events that wait, the counts, the clock, and what was told
 pub record State : Type 0 where
   pub shape : Option Shape
-  pub replicas : Standing
   pub stopped : List ℕ
   pub requests : List Asked
   pub replies : List Replied
@@ -40,7 +35,7 @@ pub record State : Type 0 where
 
 -- never opened
 abbrev pub fresh_state : State
-fresh_state = record { shape = None; replicas = none_standing; stopped = []; requests = []; replies = []; queue = []; sent = 0; answered = 0; clock = 0; past = Begun }
+fresh_state = record { shape = None; stopped = []; requests = []; replies = []; queue = []; sent = 0; answered = 0; clock = 0; past = Begun }
 
 -- the world that was told
 abbrev pub told_world : Past → World
@@ -68,11 +63,9 @@ AllShow [] [] = Unit {0}
 AllShow (made ∷ rest) (event ∷ events) = Shows made event × AllShow rest events
 AllShow _ _ = ⊥
 
--- The state is that of a world in which nothing is in doubt. What waits there is queued, no request in flight goes to a stopped node, and no
+-- The state is that of a world, whatever is held and in doubt there. What waits there is queued, no request in flight goes to a stopped node, and no
 -- reply in flight is of one.
 pub record IsStateOf (w : World) (s : State) : Type 0 where
-  pub cells : (n p : ℕ) (id : BlobId) → cells_of s.replicas n p id ≡ w.cells n p id
-  pub sure : (n p : ℕ) → w.doubts n p ≡ None
   pub stopped : (n : ℕ) → w.stopped n ≡ is_among s.stopped n
   pub waits : AllShow w.waiting s.queue
   pub clock : w.clock ≡ s.clock
@@ -92,7 +85,6 @@ pub record IsSound (s : State) : Type 0 where
   pub small_sent : s.sent < 2 ^ 32
   pub small_answered : s.answered < 2 ^ 32
   pub shape : (shape : Shape) → s.shape ≡ Some shape → IsShape shape
-  pub standing : (n p : ℕ) → stands_at s.replicas n p ≡ stands s.shape n p
 
 abbrev pub asked_number : Asked → ℕ
 asked_number asked = asked.number
@@ -104,16 +96,12 @@ replied_number replied = replied.number
 abbrev pub network_of : State → Network
 network_of s = record { shape = s.shape; calls = calls_of s.past; requests = map asked_number s.requests; replies = map replied_number s.replies; queue = s.queue }
 
--- what the replicas hold, with which nodes are stopped: nothing is in doubt
-abbrev pub image_of : State → Image
-image_of s = record { cells = cells_of s.replicas; doubts = λ n p. None; stopped = is_among s.stopped }
-
--- what is told is a run from these cells that leads to what the replicas hold
-abbrev pub RunsFrom : State → Cells → Type 0
-RunsFrom s opening = LeadsTo opening (calls_of s.past) (image_of s)
-
+-- Where what was told was a run, from whatever cells, it still is one, and what is held and in doubt stays.
 abbrev pub KeepsState : State → State → Type 0
-KeepsState old new = KeepsRun (RunsFrom old) (RunsFrom new)
+KeepsState old new = (opening : Cells)
+    → (Run opening (told (calls_of old.past)) → Run opening (told (calls_of new.past)))
+    × ((world opening (told (calls_of new.past))).cells ≡ (world opening (told (calls_of old.past))).cells)
+    × (has_torn (calls_of new.past) ≡ has_torn (calls_of old.past))
 
 -- the frame of a request asks this
 abbrev pub AskedAs : Option Asked → Question → Type 0

@@ -1,13 +1,14 @@
-//! The nodes and what is in flight between them and the router.
+//! What is in flight between the nodes and the router, and what was told.
 
 ghost use Rattle.std.specs.Prelude.{false, true, ◌≡◌, ◌<◌, [], ◌∷◌, length, Some, OnOk, OnErr, IfOk, IfSome};
-ghost use Rattle.mem_fabric.specs.Network.{nothing, after_open, after_steps, after_send, after_stop, after_given, after_move, ticked, dropped, dropped_reply, handed, quiet, taken, is_node, is_stopped, broken, cut, halted, stops, resumed, restarts, Makes, Does, Obeys, IsOldest, Within};
-ghost use Rattle.mem_fabric.specs.Sound.{State, fresh_state, network_of, KeepsState, QuestionAt, RunsRequest};
-ghost use Rattle.mem_fabric.specs.Past.{calls_of};
+ghost use Rattle.mem_fabric.specs.Going.{AreNodesOf, GoesOn, IsStopped, RunsAgain, SameNodes};
+ghost use Rattle.mem_fabric.specs.Network.{nothing, after_open, after_steps, after_send, after_stop, after_given, after_move, ticked, dropped, dropped_reply, handed, quiet, taken, is_node, is_stopped, broken, cut, halted, resumed, IsOldest, Within};
+ghost use Rattle.mem_fabric.specs.Sound.{State, fresh_state, is_among, network_of, KeepsState, QuestionAt, RunsRequest};
+ghost use Rattle.mem_fabric.specs.Past.{calls_of, order_steps};
 ghost use Rattle.world_model.specs.declared.order.Order.{Order};
 ghost use Rattle.world_model.specs.declared.order.Told.{Told};
 ghost use Rattle.world_model.specs.declared.step.Step.{Step};
-ghost use Rattle.world_model.specs.Fabric.{Awaits, TakesOrder};
+ghost use Rattle.world_model.specs.Fabric.{Awaits};
 ghost use Rattle.world_model.specs.Shape.{IsShape};
 
 use crate::asking::{Question, question_in};
@@ -16,21 +17,21 @@ use crate::flight::{
     take_out,
 };
 use crate::past::Past;
-use crate::replicas::Replicas;
 use blob_id::{Bytes, Memory};
+use disk_core::Bays;
+use lab_nodes::LabNodes;
 use req_frame::{Body, Frame, encode};
 use std::alloc::Global;
 use std::marker::Model;
 use std::snapshot::Snapshot;
-use world_model::{Event, Move, Order, Shape, Told};
+use world_model::{Event, Order, Shape, Told};
 
-/// The nodes with their replicas, those that are stopped, what is in flight, the events that wait to be given, how many requests
+/// What the network was opened for, which nodes are stopped, what is in flight, the events that wait to be given, how many requests
 /// were sent and replies given, the clock, and what was told.
 #[derive(Drop)]
 pub struct Cluster {
     alloc: Global,
     shape: Option<Shape>,
-    replicas: Replicas,
     stopped: Vec<u32>,
     requests: Vec<Asked>,
     replies: Vec<Replied>,
@@ -43,17 +44,15 @@ pub struct Cluster {
 
 impl Model for Cluster {
     ghost use Rattle.mem_fabric.specs.Sound.{State, IsSound};
-    ghost use Rattle.cell_model.specs.contracts.plain.PlainReplica as replica;
     ghost use Rattle.mem_fabric.specs.contracts.past.Past as told;
     ghost use Rattle.std.specs.Coded.{codes};
 
     ghost Value = { State };
 
-    ghost coded = { Prim.hlevel (codes, replica.the_row.coded, told.the_row.coded) };
+    ghost coded = { Prim.hlevel (codes, told.the_row.coded) };
 
     ghost view = { λ a. record {
       shape = a.shape;
-      replicas = a.replicas;
       stopped = a.stopped.items;
       requests = a.requests.items;
       replies = a.replies.items;
@@ -66,7 +65,6 @@ impl Model for Cluster {
 
     ghost invariant = { λ a. IsSound (record {
       shape = a.shape;
-      replicas = a.replicas;
       stopped = a.stopped.items;
       requests = a.requests.items;
       replies = a.replies.items;
@@ -79,14 +77,13 @@ impl Model for Cluster {
 }
 
 impl Cluster {
-    /// No node, and no call told. It takes no memory.
+    /// No shape, and no call told. It takes no memory.
     pub fn new(alloc: Global) -> Cluster
         ensures { result ≡ fresh_state }
     {
         Cluster {
             alloc,
             shape: None,
-            replicas: Replicas::new(alloc),
             stopped: Vec::new(alloc),
             requests: Vec::new(alloc),
             replies: Vec::new(alloc),
@@ -98,18 +95,16 @@ impl Cluster {
         }
     }
 
-    /// Makes the nodes of a shape.
-    pub fn open(&mut self, shape: &Shape) -> Result<(), Memory>
+    /// The nodes of a shape are open.
+    pub fn open(&mut self, shape: &Shape)
         requires shape { IsShape shape.now }
         requires fresh { self.old ≡ fresh_state }
-        ensures ok { OnOk result (network_of self.new ≡ after_open (network_of self.old) shape.now) }
-        ensures err { OnErr result (self.new ≡ self.old) }
+        ensures network { network_of self.new ≡ after_open (network_of self.old) shape.now }
         ensures run { KeepsState self.old self.new }
+        ensures nodes { (self.new.shape ≡ Some shape.now) × (self.new.stopped ≡ []) }
     {
-        self.replicas = Replicas::open(self.alloc, shape)?;
         self.shape = Some(*shape);
         self.past = Past::Opened(Snapshot::of(&self.past));
-        Ok(())
     }
 
     /// The shape that it was opened for.
@@ -146,7 +141,8 @@ impl Cluster {
 
     /// Whether a node is stopped.
     pub fn is_stopped(&self, node: u32) -> bool
-        ensures { result ≡ is_stopped (network_of self.now) node }
+        ensures told { result ≡ is_stopped (network_of self.now) node }
+        ensures among { result ≡ is_among self.now.stopped node }
     {
         // The past is looked at, so that a proof knows what holds of it.
         let _past = &self.past;
@@ -159,6 +155,7 @@ impl Cluster {
         ensures ok { OnOk result (network_of self.new ≡ after_send (network_of self.old) node frame.now) }
         ensures err { OnErr result (self.new ≡ self.old) }
         ensures run { KeepsState self.old self.new }
+        ensures nodes { SameNodes self.old self.new }
     {
         let frame = Bytes::copy_of(self.alloc, frame)?;
         self.past = Past::Refused(
@@ -175,6 +172,7 @@ impl Cluster {
         ensures ok { OnOk result (network_of self.new ≡ after_send (network_of self.old) node frame.now) }
         ensures err { OnErr result (self.new ≡ self.old) }
         ensures run { KeepsState self.old self.new }
+        ensures nodes { SameNodes self.old self.new }
     {
         let Some(sent) = self.sent.checked_add(1) else {
             return Err(Memory);
@@ -205,6 +203,7 @@ impl Cluster {
         ensures oldest { IsOldest self.old.queue result }
         ensures network { network_of self.new ≡ after_given (network_of self.old) result }
         ensures run { KeepsState self.old self.new }
+        ensures nodes { SameNodes self.old self.new }
     {
         let event = self.queue.remove(0);
         self.past = Past::Gave(Snapshot::of(&self.past), Snapshot::of(&event));
@@ -212,12 +211,13 @@ impl Cluster {
     }
 
     /// Stops a node that runs, by an order.
-    fn stop(&mut self, node: u32) -> Result<Told, Memory>
+    pub fn stop(&mut self, node: u32) -> Result<Told, Memory>
         requires { is_stopped (network_of self.old) node ≡ false }
         ensures done { IfOk result (λ answer. answer ≡ Told.Done) }
         ensures ok { OnOk result (network_of self.new ≡ after_stop (network_of self.old) node) }
         ensures err { OnErr result (self.new ≡ self.old) }
         ensures run { KeepsState self.old self.new }
+        ensures nodes { OnOk result (IsStopped self.old node self.new) }
     {
         // The number of events that wait has to fit the answer of `queued`.
         if self.queue.len() >= 4294967295 {
@@ -241,11 +241,12 @@ impl Cluster {
     }
 
     /// Lets a stopped node run again, by an order.
-    fn restart(&mut self, node: u32) -> Told
+    pub fn restart(&mut self, node: u32) -> Told
         requires { is_stopped (network_of self.old) node ≡ true }
         ensures done { result ≡ Told.Done }
         ensures network { network_of self.new ≡ after_steps (network_of self.old) (Step.Restart node [] ∷ []) }
         ensures run { KeepsState self.old self.new }
+        ensures nodes { RunsAgain self.old node self.new }
     {
         take_node(&mut self.stopped, node);
         self.past = Past::Ordered(
@@ -256,48 +257,29 @@ impl Cluster {
         Told::Done
     }
 
-    /// The node of an order is in that state already.
-    fn stay(&mut self, order: Order) -> Told
-        ensures already { result ≡ Told.Already }
+    /// An order comes to nothing, and is answered so.
+    pub fn stay(&mut self, order: Order, answer: Told) -> Told
+        requires { order_steps order answer ≡ [] }
+        ensures answer { result ≡ answer }
         ensures network { network_of self.new ≡ after_steps (network_of self.old) [] }
         ensures run { KeepsState self.old self.new }
+        ensures nodes { SameNodes self.old self.new }
     {
         self.past = Past::Ordered(
             Snapshot::of(&self.past),
             Snapshot::of(&order),
-            Snapshot::of(&Told::Already),
+            Snapshot::of(&answer),
         );
-        Told::Already
-    }
-
-    /// Stops a node, or lets it run again.
-    pub fn obey(&mut self, order: Order) -> Result<Told, Memory>
-        requires { TakesOrder self.old.shape order }
-        ensures obeys { IfOk result (λ answer. Obeys (network_of self.old) order answer (network_of self.new)) }
-        ensures err { OnErr result (self.new ≡ self.old) }
-        ensures run { KeepsState self.old self.new }
-    {
-        match order {
-            Order::Stop(node) => if self.is_stopped(node) {
-                Ok(self.stay(order))
-            } else {
-                self.stop(node)
-            },
-            Order::Restart(node) => if self.is_stopped(node) {
-                Ok(self.restart(node))
-            } else {
-                Ok(self.stay(order))
-            },
-            _ => unreachable!(),
-        }
+        answer
     }
 
     /// So many ms go by.
-    fn tick(&mut self, ms: u64) -> Event
+    pub fn tick(&mut self, ms: u64) -> Event
         requires calm { self.old.queue ≡ [] }
         ensures made { (ticked (network_of self.old) ms).event ≡ result }
         ensures network { network_of self.new ≡ after_move (network_of self.old) (ticked (network_of self.old) ms) }
         ensures run { KeepsState self.old self.new }
+        ensures nodes { SameNodes self.old self.new }
     {
         self.clock = self.clock.saturating_add(ms);
         self.past = Past::Now(Snapshot::of(&self.past), Snapshot::of(&self.clock));
@@ -310,6 +292,7 @@ impl Cluster {
         ensures quiet { result ≡ Event.Quiet }
         ensures network { network_of self.new ≡ after_move (network_of self.old) (quiet (taken (network_of self.old).requests place stays) (network_of self.old).replies) }
         ensures run { KeepsState self.old self.new }
+        ensures nodes { SameNodes self.old self.new }
     {
         take_out(&mut self.requests, place, stays);
         self.past = Past::Quiet(Snapshot::of(&self.past));
@@ -322,6 +305,7 @@ impl Cluster {
         ensures quiet { result ≡ Event.Quiet }
         ensures network { network_of self.new ≡ after_move (network_of self.old) (quiet (network_of self.old).requests (taken (network_of self.old).replies place false)) }
         ensures run { KeepsState self.old self.new }
+        ensures nodes { SameNodes self.old self.new }
     {
         take_out(&mut self.replies, place, false);
         self.past = Past::Quiet(Snapshot::of(&self.past));
@@ -336,6 +320,7 @@ impl Cluster {
         ensures network { OnOk result (network_of self.new ≡ after_move (network_of self.old) (handed (network_of self.old) (Some place) stays)) }
         ensures err { OnErr result (self.new ≡ self.old) }
         ensures run { KeepsState self.old self.new }
+        ensures nodes { SameNodes self.old self.new }
     {
         let reply = &self.replies[place];
         let node = reply.node;
@@ -352,7 +337,7 @@ impl Cluster {
     }
 
     /// Whether a node is one of the shape.
-    fn is_node(&self, node: u32) -> bool
+    pub fn is_node(&self, node: u32) -> bool
         ensures { result ≡ is_node self.now.shape node }
     {
         match &self.shape {
@@ -367,6 +352,7 @@ impl Cluster {
         ensures broken { result ≡ Event.Broken node }
         ensures network { network_of self.new ≡ after_move (network_of self.old) (broken (network_of self.old) node) }
         ensures run { KeepsState self.old self.new }
+        ensures nodes { SameNodes self.old self.new }
     {
         drop_asked(&mut self.requests, node);
         drop_replied(&mut self.replies, node);
@@ -374,13 +360,33 @@ impl Cluster {
         Event::Broken { node }
     }
 
+    /// Nothing comes of a move.
+    pub fn rest(&mut self) -> Event
+        ensures quiet { result ≡ Event.Quiet }
+        ensures network { network_of self.new ≡ after_move (network_of self.old) (quiet (network_of self.old).requests (network_of self.old).replies) }
+        ensures run { KeepsState self.old self.new }
+        ensures nodes { SameNodes self.old self.new }
+    {
+        self.past = Past::Quiet(Snapshot::of(&self.past));
+        Event::Quiet
+    }
+
     /// The request at a place, which asks this, is run.
-    fn answer(&mut self, place: usize, stays: bool, question: Question) -> Result<Event, Memory>
+    fn answer<B: Bays>(
+        &mut self,
+        nodes: &mut LabNodes<B>,
+        place: usize,
+        stays: bool,
+        question: Question,
+    ) -> Result<Event, Memory>
+    where
+        B::Disk: Drop,
         requires place { place < length self.old.requests }
         requires asked { QuestionAt self.old place question }
+        requires of { AreNodesOf self.old nodes.old }
         ensures made { IfOk result (λ event. RunsRequest self.old (Some place) stays event self.new) }
         ensures err { OnErr result (self.new ≡ self.old) }
-        ensures run { KeepsState self.old self.new }
+        ensures goes { GoesOn B.tells B.Disk.tells B.Disk.content B.Disk.faults B.home B.out B.same self.old nodes.old self.new nodes.new }
     {
         let Some(answered) = self.answered.checked_add(1) else {
             return Err(Memory);
@@ -395,7 +401,7 @@ impl Cluster {
         let request = &self.requests[place];
         let node = request.node;
         let number = request.number;
-        let reply = self.replicas.ask(node, partition, ask);
+        let reply = nodes.ask(node, partition, ask);
         self.past = Past::Ran(
             Snapshot::of(&self.past),
             Snapshot::of(&number),
@@ -422,39 +428,56 @@ impl Cluster {
     }
 
     /// The request at a place is run.
-    fn run(&mut self, place: usize, stays: bool) -> Result<Event, Memory>
-        requires { place < length self.old.requests }
+    fn run<B: Bays>(
+        &mut self,
+        nodes: &mut LabNodes<B>,
+        place: usize,
+        stays: bool,
+    ) -> Result<Event, Memory>
+    where
+        B::Disk: Drop,
+        requires place { place < length self.old.requests }
+        requires of { AreNodesOf self.old nodes.old }
         ensures made { IfOk result (λ event. RunsRequest self.old (Some place) stays event self.new) }
         ensures err { OnErr result (self.new ≡ self.old) }
-        ensures run { KeepsState self.old self.new }
+        ensures goes { GoesOn B.tells B.Disk.tells B.Disk.content B.Disk.faults B.home B.out B.same self.old nodes.old self.new nodes.new }
     {
         match question_in(self.alloc, self.requests[place].frame.as_slice())? {
-            Some(question) => self.answer(place, stays, question),
+            Some(question) => self.answer(nodes, place, stays, question),
             None => Ok(self.leave_request(place, stays)),
         }
     }
 
     /// The request at a place is run, or a move on nothing is done.
-    fn run_at(&mut self, place: Option<usize>, stays: bool) -> Result<Event, Memory>
+    pub fn run_at<B: Bays>(
+        &mut self,
+        nodes: &mut LabNodes<B>,
+        place: Option<usize>,
+        stays: bool,
+    ) -> Result<Event, Memory>
+    where
+        B::Disk: Drop,
         requires calm { self.old.queue ≡ [] }
         requires place { Within place (length self.old.requests) }
+        requires of { AreNodesOf self.old nodes.old }
         ensures made { IfOk result (λ event. RunsRequest self.old place stays event self.new) }
         ensures err { OnErr result (self.new ≡ self.old) }
-        ensures run { KeepsState self.old self.new }
+        ensures goes { GoesOn B.tells B.Disk.tells B.Disk.content B.Disk.faults B.home B.out B.same self.old nodes.old self.new nodes.new }
     {
         match place {
-            Some(place) => self.run(place, stays),
+            Some(place) => self.run(nodes, place, stays),
             None => Ok(self.tick(0)),
         }
     }
 
     /// The request at a place is lost, or a move on nothing is done.
-    fn drop_at(&mut self, place: Option<usize>) -> Event
+    pub fn drop_at(&mut self, place: Option<usize>) -> Event
         requires calm { self.old.queue ≡ [] }
         requires place { Within place (length self.old.requests) }
         ensures made { (dropped (network_of self.old) place).event ≡ result }
         ensures network { network_of self.new ≡ after_move (network_of self.old) (dropped (network_of self.old) place) }
         ensures run { KeepsState self.old self.new }
+        ensures nodes { SameNodes self.old self.new }
     {
         match place {
             Some(place) => self.leave_request(place, false),
@@ -463,13 +486,14 @@ impl Cluster {
     }
 
     /// The reply at a place comes, or a move on nothing is done.
-    fn hand_at(&mut self, place: Option<usize>, stays: bool) -> Result<Event, Memory>
+    pub fn hand_at(&mut self, place: Option<usize>, stays: bool) -> Result<Event, Memory>
         requires calm { self.old.queue ≡ [] }
         requires place { Within place (length self.old.replies) }
         ensures made { IfOk result (λ event. (handed (network_of self.old) place stays).event ≡ event) }
         ensures network { OnOk result (network_of self.new ≡ after_move (network_of self.old) (handed (network_of self.old) place stays)) }
         ensures err { OnErr result (self.new ≡ self.old) }
         ensures run { KeepsState self.old self.new }
+        ensures nodes { SameNodes self.old self.new }
     {
         match place {
             Some(place) => self.hand(place, stays),
@@ -478,12 +502,13 @@ impl Cluster {
     }
 
     /// The reply at a place is lost, or a move on nothing is done.
-    fn drop_reply_at(&mut self, place: Option<usize>) -> Event
+    pub fn drop_reply_at(&mut self, place: Option<usize>) -> Event
         requires calm { self.old.queue ≡ [] }
         requires place { Within place (length self.old.replies) }
         ensures made { (dropped_reply (network_of self.old) place).event ≡ result }
         ensures network { network_of self.new ≡ after_move (network_of self.old) (dropped_reply (network_of self.old) place) }
         ensures run { KeepsState self.old self.new }
+        ensures nodes { SameNodes self.old self.new }
     {
         match place {
             Some(place) => self.drop_reply(place),
@@ -492,11 +517,12 @@ impl Cluster {
     }
 
     /// The connection to a node breaks, or a move on nothing is done.
-    fn cut_at(&mut self, node: u32) -> Event
+    pub fn cut_at(&mut self, node: u32) -> Event
         requires calm { self.old.queue ≡ [] }
         ensures made { (cut (network_of self.old) node).event ≡ result }
         ensures network { network_of self.new ≡ after_move (network_of self.old) (cut (network_of self.old) node) }
         ensures run { KeepsState self.old self.new }
+        ensures nodes { SameNodes self.old self.new }
     {
         if self.is_node(node) {
             self.break_off(node)
@@ -506,13 +532,14 @@ impl Cluster {
     }
 
     /// A node that runs stops, by a move: what is in flight between it and the router is lost.
-    fn halt(&mut self, node: u32) -> Result<Event, Memory>
+    pub fn halt(&mut self, node: u32) -> Result<Event, Memory>
         requires calm { self.old.queue ≡ [] }
         requires running { is_stopped (network_of self.old) node ≡ false }
         ensures broken { IfOk result (λ event. event ≡ Event.Broken node) }
         ensures network { OnOk result (network_of self.new ≡ after_move (network_of self.old) (halted (network_of self.old) node)) }
         ensures err { OnErr result (self.new ≡ self.old) }
         ensures run { KeepsState self.old self.new }
+        ensures nodes { OnOk result (IsStopped self.old node self.new) }
     {
         self.stopped.reserve(1)?;
         silence(
@@ -525,68 +552,16 @@ impl Cluster {
         Ok(Event::Broken { node })
     }
 
-    /// A node stops, or a move on nothing is done.
-    fn stop_at(&mut self, node: u32) -> Result<Event, Memory>
-        requires calm { self.old.queue ≡ [] }
-        ensures made { IfOk result (λ event. (stops (network_of self.old) node).event ≡ event) }
-        ensures network { OnOk result (network_of self.new ≡ after_move (network_of self.old) (stops (network_of self.old) node)) }
-        ensures err { OnErr result (self.new ≡ self.old) }
-        ensures run { KeepsState self.old self.new }
-    {
-        if self.is_node(node) && !self.is_stopped(node) {
-            self.halt(node)
-        } else {
-            Ok(self.tick(0))
-        }
-    }
-
     /// A stopped node runs again, by a move.
-    fn resume(&mut self, node: u32) -> Event
+    pub fn resume(&mut self, node: u32) -> Event
         requires { is_stopped (network_of self.old) node ≡ true }
         ensures quiet { result ≡ Event.Quiet }
         ensures network { network_of self.new ≡ after_move (network_of self.old) (resumed (network_of self.old) node) }
         ensures run { KeepsState self.old self.new }
+        ensures nodes { RunsAgain self.old node self.new }
     {
         take_node(&mut self.stopped, node);
         self.past = Past::Restarted(Snapshot::of(&self.past), Snapshot::of(&node));
         Event::Quiet
-    }
-
-    /// A stopped node runs again, or a move on nothing is done.
-    fn restart_at(&mut self, node: u32) -> Event
-        requires calm { self.old.queue ≡ [] }
-        ensures made { (restarts (network_of self.old) node).event ≡ result }
-        ensures network { network_of self.new ≡ after_move (network_of self.old) (restarts (network_of self.old) node) }
-        ensures run { KeepsState self.old self.new }
-    {
-        if self.is_node(node) && self.is_stopped(node) {
-            self.resume(node)
-        } else {
-            self.tick(0)
-        }
-    }
-
-    /// Does one move.
-    pub fn act(&mut self, chosen: Move) -> Result<Event, Memory>
-        requires calm { self.old.queue ≡ [] }
-        ensures does { Does (network_of self.old) chosen (network_of self.new) result }
-        ensures err { OnErr result (self.new ≡ self.old) }
-        ensures run { KeepsState self.old self.new }
-    {
-        let requests = self.requests();
-        let replies = self.replies();
-        match chosen {
-            Move::Run(k) => self.run_at(place_among(k, requests), false),
-            Move::RunAgain(k) => self.run_at(place_among(k, requests), true),
-            Move::Drop(k) => Ok(self.drop_at(place_among(k, requests))),
-            Move::Hand(k) => self.hand_at(place_among(k, replies), false),
-            Move::HandAgain(k) => self.hand_at(place_among(k, replies), true),
-            Move::DropReply(k) => Ok(self.drop_reply_at(place_among(k, replies))),
-            Move::Tick(ms) => Ok(self.tick(ms)),
-            Move::Cut(node) => Ok(self.cut_at(node)),
-            Move::Stop(node) => self.stop_at(node),
-            Move::Restart(node) => Ok(self.restart_at(node)),
-            Move::Pull(_, _, _) | Move::Compact(_, _) => Ok(self.tick(0)),
-        }
     }
 }

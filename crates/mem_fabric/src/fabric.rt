@@ -2,47 +2,77 @@
 
 ghost use Rattle.std.specs.Prelude.{◌≡◌, ℕ, ◌≤◌, List, [], true, false, Some, None, IsSome, IfOk, OnOk, OnErr, IsErrOf, cond};
 ghost use Rattle.std.specs.Option.{is_some};
+ghost use Rattle.lab_nodes.specs.Nodes.{AllTidy, HomeHolds, is_up, never_opened};
+ghost use Rattle.lab_nodes.specs.Spots.{DiskFailed, HasFailed};
+ghost use Rattle.lab_nodes.specs.Starting.{IsFirst};
+ghost use Rattle.lab_nodes.specs.declared.places.Which.{Which};
 ghost use Rattle.outside.specs.Causes.{Rose};
-ghost use Rattle.mem_fabric.specs.Network.{is_stopped, nothing_held};
+ghost use Rattle.mem_fabric.specs.Going.{AreNodesOf, GoesOn, HasTornBy, KeepsBays};
+ghost use Rattle.mem_fabric.specs.Network.{is_stopped};
 ghost use Rattle.mem_fabric.specs.Past.{calls_of};
 ghost use Rattle.mem_fabric.specs.Played.{Plays, Falls, AtMostOne};
-ghost use Rattle.mem_fabric.specs.Sound.{KeepsState, RunsFrom, fresh_state, network_of};
+ghost use Rattle.mem_fabric.specs.Runs.{RunsFrom};
+ghost use Rattle.mem_fabric.specs.Sound.{fresh_state, network_of};
 ghost use Rattle.mem_fabric.specs.PlayedLaws.{plays_nothing, plays_on, falls_as_plays, falls_on, fresh_told};
-ghost use Rattle.world_model.specs.Fabric.{DidNothing, Gave, HasNode, TakesOrder, Tells, TellsOrder, TellsSend};
+ghost use Rattle.mem_fabric.specs.Torn.{has_torn};
+ghost use Rattle.world_model.specs.Fabric.{DidNothing, Gave, HasNode, KeepsRun, TakesOrder, Tells, TellsOrder, TellsSend};
+ghost use Rattle.world_model.specs.declared.order.PullCause.{PullCause};
+ghost use Rattle.world_model.specs.declared.order.Refusal.{Refusal};
+ghost use Rattle.world_model.specs.declared.order.Told.{Told};
 ghost use Rattle.world_model.specs.declared.shape.Shape.{Shape};
 ghost use Rattle.world_model.specs.declared.step.Event.{Event};
 ghost use Rattle.world_model.specs.Shape.{IsShape};
+ghost use Rattle.world_model.specs.World.{Cells};
 ghost use Rattle.world_model.specs.declared.fabric.SendFault.{SendFault};
 ghost use Rattle.world_model.specs.declared.fabric.StartFault.{StartFault};
 
 use crate::cluster::Cluster;
+use crate::handed::Handed;
 use blob_id::Memory;
+use disk_core::Bays;
+use lab_nodes::{LabNodes, NodesFault};
 use std::alloc::Global;
 use world_model::{Event, Fabric, Moves, Order, SendFault, Shape, StartFault, Told};
 
-/// A network in memory whose moves are handed in, with a count of the sends that it refused, which stays at its last value.
+/// A network whose disks and whose moves are handed in, with a count of the sends that it refused and of the openings that failed,
+/// which stays at its last value.
 #[derive(Drop)]
-pub struct MemFabric<M> {
+pub struct MemFabric<B: Bays, M> {
     cluster: Cluster,
+    nodes: LabNodes<B>,
+    handed: Handed<B>,
     faults: u64,
     fresh: bool,
     opened: bool,
     moves: M,
     ghost empty: { fresh ≡ true → cluster ≡ fresh_state },
     ghost closed: { fresh ≡ true → opened ≡ false },
+    ghost unopened: { fresh ≡ true → nodes ≡ never_opened nodes.bays },
+    ghost kept: { fresh ≡ true → nodes.bays ≡ handed },
     ghost shaped: { opened ≡ true → is_some cluster.shape ≡ true },
+    ghost of: { opened ≡ true → AreNodesOf cluster nodes },
+    ghost torn: { HasTornBy B.Disk.tells B.Disk.faults cluster },
 }
 
-impl<M: Moves> MemFabric<M> {
-    /// A network that was never opened, told no call and holds nothing, with its schedule. It takes no memory.
-    pub fn new(alloc: Global, moves: M) -> MemFabric<M>
-        ensures fresh { ⟦<MemFabric<M> as Fabric>⟧.fresh result ≡ true }
-        ensures told { ⟦<MemFabric<M> as Fabric>⟧.told result ≡ Some [] }
+impl<B: Bays, M: Moves> MemFabric<B, M>
+where
+    B::Disk: Drop,
+{
+    /// A network that was never opened, told no call and has all disks at home, with its schedule. It takes no memory.
+    pub fn new(alloc: Global, bays: B, moves: M) -> MemFabric<B, M>
+        requires tidy { B.Disk.tells → AllTidy B.Disk.content B.home bays }
+        ensures fresh { ⟦<MemFabric<B, M> as Fabric>⟧.fresh result ≡ true }
+        ensures told { ⟦<MemFabric<B, M> as Fabric>⟧.told result ≡ Some [] }
         ensures moves { result.moves ≡ moves }
-        ensures empty { (cluster : Shape) (place : List ℕ) → ⟦<MemFabric<M> as Fabric>⟧.runs result cluster place nothing_held }
+        ensures nodes { result.nodes ≡ never_opened bays }
+        ensures faults { result.faults ≡ 0 }
+        ensures holds { (shape : Shape) (folder : List ℕ) (opening : Cells) → (B.Disk.tells → HomeHolds B.Disk.content B.home shape folder bays opening) → ⟦<MemFabric<B, M> as Fabric>⟧.runs result shape folder opening }
     {
+        let handed = Handed::of(&bays);
         MemFabric {
             cluster: Cluster::new(alloc),
+            nodes: LabNodes::new(alloc, bays),
+            handed,
             faults: 0,
             fresh: true,
             opened: false,
@@ -50,18 +80,21 @@ impl<M: Moves> MemFabric<M> {
         }
     }
 
-    /// Hands the schedule back.
-    pub fn give_back(self) -> M
-        ensures { result ≡ self.moves }
+    /// Hands the bays and the schedule back.
+    pub fn give_back(self) -> (B, M)
+        ensures bays { result.0 ≡ self.nodes.bays }
+        ensures moves { result.1 ≡ self.moves }
     {
         let MemFabric {
             cluster: _,
+            nodes,
+            handed: _,
             faults: _,
             fresh: _,
             opened: _,
             moves,
         } = self;
-        moves
+        (nodes.give_back(), moves)
     }
 
     /// Gives the event of the move that the schedule picks.
@@ -71,9 +104,9 @@ impl<M: Moves> MemFabric<M> {
         ensures opened { cond self.new.opened self.new.cluster.shape None ≡ cond self.old.opened self.old.cluster.shape None }
         ensures told { IfOk result (λ event. Tells (Some (calls_of self.old.cluster.past)) (Some (calls_of self.new.cluster.past)) (Gave event)) }
         ensures err { OnErr result (Some (calls_of self.new.cluster.past) ≡ Some (calls_of self.old.cluster.past)) }
-        ensures run { (cluster : Shape) (place : List ℕ) → KeepsState self.old.cluster self.new.cluster }
-        ensures goes { OnOk result (Plays (M.given self.old.moves) (network_of self.old.cluster) (M.given self.new.moves) (network_of self.new.cluster) × M.same self.old.moves self.new.moves × (M.seeds self.new.moves ≡ M.seeds self.old.moves)) }
-        ensures falls { Falls (M.given self.old.moves) (network_of self.old.cluster) (M.given self.new.moves) (network_of self.new.cluster) × M.same self.old.moves self.new.moves × (M.seeds self.new.moves ≡ M.seeds self.old.moves) }
+        ensures run { (cluster : Shape) (place : List ℕ) → KeepsRun (RunsFrom B.Disk.tells B.Disk.content B.home (calls_of self.old.cluster.past) self.old.nodes cluster place) (RunsFrom B.Disk.tells B.Disk.content B.home (calls_of self.new.cluster.past) self.new.nodes cluster place) }
+        ensures goes { OnOk result (Plays (M.given self.old.moves) (network_of self.old.cluster) (M.given self.new.moves) (network_of self.new.cluster) × M.same self.old.moves self.new.moves × (M.seeds self.new.moves ≡ M.seeds self.old.moves) × KeepsBays B.tells B.out B.same self.old.nodes self.new.nodes) }
+        ensures falls { Falls (M.given self.old.moves) (network_of self.old.cluster) (M.given self.new.moves) (network_of self.new.cluster) × M.same self.old.moves self.new.moves × (M.seeds self.new.moves ≡ M.seeds self.old.moves) × KeepsBays B.tells B.out B.same self.old.nodes self.new.nodes }
         ensures most { OnErr result (AtMostOne (M.given self.old.moves) (M.given self.new.moves)) }
         ensures count { self.new.faults ≡ self.old.faults }
     {
@@ -85,12 +118,16 @@ impl<M: Moves> MemFabric<M> {
             self.cluster.requests(),
             self.cluster.replies(),
         );
-        self.cluster.act(chosen)
+        self.cluster.act(&mut self.nodes, chosen)
     }
 }
 
-impl<M: Moves> Fabric for MemFabric<M> {
+impl<B: Bays, M: Moves> Fabric for MemFabric<B, M>
+where
+    B::Disk: Drop,
+{
     ghost use Rattle.std.proofs.Common.{◌∙◌, refl};
+    ghost use Rattle.mem_fabric.specs.GoingLaws.{bays_stay, bays_on};
 
     ghost faults = { λ f. f.faults };
 
@@ -100,16 +137,17 @@ impl<M: Moves> Fabric for MemFabric<M> {
 
     ghost told = { λ f. Some (calls_of f.cluster.past) };
 
-    ghost knows = { λ _. Unit {0} };
+    ghost knows = { λ f. B.Disk.tells × (has_torn (calls_of f.cluster.past) ≡ false) };
 
-    ghost runs = { λ f shape folder opening. RunsFrom f.cluster opening };
+    ghost runs = { λ f shape folder opening. RunsFrom B.Disk.tells B.Disk.content B.home (calls_of f.cluster.past) f.nodes shape folder opening };
 
-    ghost goes = { λ f g. Plays (M.given f.moves) (network_of f.cluster) (M.given g.moves) (network_of g.cluster) × M.same f.moves g.moves × (M.seeds g.moves ≡ M.seeds f.moves) };
+    ghost goes = { λ f g. Plays (M.given f.moves) (network_of f.cluster) (M.given g.moves) (network_of g.cluster) × M.same f.moves g.moves × (M.seeds g.moves ≡ M.seeds f.moves) × KeepsBays B.tells B.out B.same f.nodes g.nodes };
 
-    ghost falls = { λ f g. Falls (M.given f.moves) (network_of f.cluster) (M.given g.moves) (network_of g.cluster) × M.same f.moves g.moves × (M.seeds g.moves ≡ M.seeds f.moves) };
+    ghost falls = { λ f g. Falls (M.given f.moves) (network_of f.cluster) (M.given g.moves) (network_of g.cluster) × M.same f.moves g.moves × (M.seeds g.moves ≡ M.seeds f.moves) × KeepsBays B.tells B.out B.same f.nodes g.nodes };
 
-    /// Opens it, unless memory runs out.
-    fn open(&mut self, shape: &Shape, _folder: &str) -> Result<(), StartFault>
+    /// Opens it for a shape whose disks lie in a folder, all or none: the first disk that isn't opened decides, by node and then by
+    /// partition. It is tried once.
+    fn open(&mut self, shape: &Shape, folder: &str) -> Result<(), StartFault>
         requires fresh { self.old.fresh ≡ true }
         requires shape { IsShape shape.now }
         ensures later { self.old.faults ≤ self.new.faults }
@@ -117,19 +155,31 @@ impl<M: Moves> Fabric for MemFabric<M> {
         ensures opened { OnOk result (cond self.new.opened self.new.cluster.shape None ≡ Some shape.now) }
         ensures told { OnOk result (Tells (Some (calls_of self.old.cluster.past)) (Some (calls_of self.new.cluster.past)) DidNothing) }
         ensures err { OnErr result (Some (calls_of self.new.cluster.past) ≡ Some (calls_of self.old.cluster.past)) }
-        ensures run { OnOk result (KeepsState self.old.cluster self.new.cluster) }
-        ensures goes { OnOk result (Plays (M.given self.old.moves) (network_of self.old.cluster) (M.given self.new.moves) (network_of self.new.cluster) × M.same self.old.moves self.new.moves × (M.seeds self.new.moves ≡ M.seeds self.old.moves)) }
-        ensures falls { Falls (M.given self.old.moves) (network_of self.old.cluster) (M.given self.new.moves) (network_of self.new.cluster) × M.same self.old.moves self.new.moves × (M.seeds self.new.moves ≡ M.seeds self.old.moves) }
-        ensures count { self.new.faults ≡ self.old.faults }
-        ensures never { IsErrOf result StartFault.Failed → ⊥ }
+        ensures run { OnOk result (KeepsRun (RunsFrom B.Disk.tells B.Disk.content B.home (calls_of self.old.cluster.past) self.old.nodes shape.now folder.now) (RunsFrom B.Disk.tells B.Disk.content B.home (calls_of self.new.cluster.past) self.new.nodes shape.now folder.now)) }
+        ensures goes { OnOk result (Plays (M.given self.old.moves) (network_of self.old.cluster) (M.given self.new.moves) (network_of self.new.cluster) × M.same self.old.moves self.new.moves × (M.seeds self.new.moves ≡ M.seeds self.old.moves) × KeepsBays B.tells B.out B.same self.old.nodes self.new.nodes) }
+        ensures falls { Falls (M.given self.old.moves) (network_of self.old.cluster) (M.given self.new.moves) (network_of self.new.cluster) × M.same self.old.moves self.new.moves × (M.seeds self.new.moves ≡ M.seeds self.old.moves) × KeepsBays B.tells B.out B.same self.old.nodes self.new.nodes }
+        ensures count { (IsErrOf result StartFault.Failed → ⊥) → self.new.faults ≡ self.old.faults }
+        ensures failed { IsErrOf result StartFault.Failed → HasFailed B.Disk.faults (B.faults self.old.nodes.bays) (B.faults self.new.nodes.bays) }
+        ensures refused { (refusal : Refusal) → IsErrOf result (StartFault.Refused refusal) → B.tells → IsFirst B.Disk.tells B.Disk.content B.Disk.size Which.All shape.now folder.now (B.home self.old.nodes.bays) refusal }
+        ensures stays { OnErr result (B.Disk.tells → (cells : Cells) → HomeHolds B.Disk.content B.home shape.now folder.now self.old.nodes.bays cells → HomeHolds B.Disk.content B.home shape.now folder.now self.new.nodes.bays cells) }
+        ensures shut { OnErr result ((n p : ℕ) → is_up self.new.nodes n p ≡ false) }
+        ensures unmoved { OnErr result (self.new.moves ≡ self.old.moves) }
+        ensures later_bays { B.faults self.old.nodes.bays ≤ B.faults self.new.nodes.bays }
     {
-        match self.cluster.open(shape) {
+        self.handed.look();
+        self.fresh = false;
+        match self.nodes.open(shape, folder) {
             Ok(()) => {
-                self.fresh = false;
+                self.cluster.open(shape);
                 self.opened = true;
                 Ok(())
             }
-            Err(_) => Err(StartFault::Memory),
+            Err(NodesFault::Failed) => {
+                self.faults = self.faults.saturating_add(1);
+                Err(StartFault::Failed)
+            }
+            Err(NodesFault::Refused(refusal)) => Err(StartFault::Refused(refusal)),
+            Err(NodesFault::Memory) => Err(StartFault::Memory),
         }
     }
 
@@ -140,9 +190,9 @@ impl<M: Moves> Fabric for MemFabric<M> {
         ensures cause { IsErrOf result SendFault.Failed → Rose self.old.faults self.new.faults }
         ensures opened { cond self.new.opened self.new.cluster.shape None ≡ cond self.old.opened self.old.cluster.shape None }
         ensures told { TellsSend result (Some (calls_of self.old.cluster.past)) (Some (calls_of self.new.cluster.past)) node frame.now }
-        ensures run { (cluster : Shape) (place : List ℕ) → KeepsState self.old.cluster self.new.cluster }
-        ensures goes { (IsErrOf result SendFault.Memory → ⊥) → Plays (M.given self.old.moves) (network_of self.old.cluster) (M.given self.new.moves) (network_of self.new.cluster) × M.same self.old.moves self.new.moves × (M.seeds self.new.moves ≡ M.seeds self.old.moves) }
-        ensures falls { Falls (M.given self.old.moves) (network_of self.old.cluster) (M.given self.new.moves) (network_of self.new.cluster) × M.same self.old.moves self.new.moves × (M.seeds self.new.moves ≡ M.seeds self.old.moves) }
+        ensures run { (cluster : Shape) (place : List ℕ) → KeepsRun (RunsFrom B.Disk.tells B.Disk.content B.home (calls_of self.old.cluster.past) self.old.nodes cluster place) (RunsFrom B.Disk.tells B.Disk.content B.home (calls_of self.new.cluster.past) self.new.nodes cluster place) }
+        ensures goes { (IsErrOf result SendFault.Memory → ⊥) → Plays (M.given self.old.moves) (network_of self.old.cluster) (M.given self.new.moves) (network_of self.new.cluster) × M.same self.old.moves self.new.moves × (M.seeds self.new.moves ≡ M.seeds self.old.moves) × KeepsBays B.tells B.out B.same self.old.nodes self.new.nodes }
+        ensures falls { Falls (M.given self.old.moves) (network_of self.old.cluster) (M.given self.new.moves) (network_of self.new.cluster) × M.same self.old.moves self.new.moves × (M.seeds self.new.moves ≡ M.seeds self.old.moves) × KeepsBays B.tells B.out B.same self.old.nodes self.new.nodes }
         ensures refused { IsErrOf result SendFault.Failed → is_stopped (network_of self.old.cluster) node ≡ true }
         ensures ok { OnOk result (is_stopped (network_of self.old.cluster) node ≡ false) }
         ensures count { (IsErrOf result SendFault.Failed → ⊥) → self.new.faults ≡ self.old.faults }
@@ -171,9 +221,9 @@ impl<M: Moves> Fabric for MemFabric<M> {
         ensures opened { cond self.new.opened self.new.cluster.shape None ≡ cond self.old.opened self.old.cluster.shape None }
         ensures told { IfOk result (λ event. Tells (Some (calls_of self.old.cluster.past)) (Some (calls_of self.new.cluster.past)) (Gave event)) }
         ensures err { OnErr result (Some (calls_of self.new.cluster.past) ≡ Some (calls_of self.old.cluster.past)) }
-        ensures run { (cluster : Shape) (place : List ℕ) → KeepsState self.old.cluster self.new.cluster }
-        ensures goes { OnOk result (Plays (M.given self.old.moves) (network_of self.old.cluster) (M.given self.new.moves) (network_of self.new.cluster) × M.same self.old.moves self.new.moves × (M.seeds self.new.moves ≡ M.seeds self.old.moves)) }
-        ensures falls { Falls (M.given self.old.moves) (network_of self.old.cluster) (M.given self.new.moves) (network_of self.new.cluster) × M.same self.old.moves self.new.moves × (M.seeds self.new.moves ≡ M.seeds self.old.moves) }
+        ensures run { (cluster : Shape) (place : List ℕ) → KeepsRun (RunsFrom B.Disk.tells B.Disk.content B.home (calls_of self.old.cluster.past) self.old.nodes cluster place) (RunsFrom B.Disk.tells B.Disk.content B.home (calls_of self.new.cluster.past) self.new.nodes cluster place) }
+        ensures goes { OnOk result (Plays (M.given self.old.moves) (network_of self.old.cluster) (M.given self.new.moves) (network_of self.new.cluster) × M.same self.old.moves self.new.moves × (M.seeds self.new.moves ≡ M.seeds self.old.moves) × KeepsBays B.tells B.out B.same self.old.nodes self.new.nodes) }
+        ensures falls { Falls (M.given self.old.moves) (network_of self.old.cluster) (M.given self.new.moves) (network_of self.new.cluster) × M.same self.old.moves self.new.moves × (M.seeds self.new.moves ≡ M.seeds self.old.moves) × KeepsBays B.tells B.out B.same self.old.nodes self.new.nodes }
         ensures most { OnErr result (AtMostOne (M.given self.old.moves) (M.given self.new.moves)) }
         ensures count { self.new.faults ≡ self.old.faults }
     {
@@ -184,20 +234,22 @@ impl<M: Moves> Fabric for MemFabric<M> {
         }
     }
 
-    /// Stops a node, or lets it run again.
+    /// Stops a node, or lets it run again, unless its disks aren't opened.
     fn admin(&mut self, order: &Order) -> Result<Told, SendFault>
         requires order { TakesOrder (cond self.old.opened self.old.cluster.shape None) order.now }
         ensures later { self.old.faults ≤ self.new.faults }
         ensures cause { IsErrOf result SendFault.Failed → Rose self.old.faults self.new.faults }
         ensures opened { cond self.new.opened self.new.cluster.shape None ≡ cond self.old.opened self.old.cluster.shape None }
         ensures told { TellsOrder result (Some (calls_of self.old.cluster.past)) (Some (calls_of self.new.cluster.past)) order.now }
-        ensures run { (cluster : Shape) (place : List ℕ) → KeepsState self.old.cluster self.new.cluster }
-        ensures goes { (IsErrOf result SendFault.Memory → ⊥) → Plays (M.given self.old.moves) (network_of self.old.cluster) (M.given self.new.moves) (network_of self.new.cluster) × M.same self.old.moves self.new.moves × (M.seeds self.new.moves ≡ M.seeds self.old.moves) }
-        ensures falls { Falls (M.given self.old.moves) (network_of self.old.cluster) (M.given self.new.moves) (network_of self.new.cluster) × M.same self.old.moves self.new.moves × (M.seeds self.new.moves ≡ M.seeds self.old.moves) }
+        ensures run { (cluster : Shape) (place : List ℕ) → KeepsRun (RunsFrom B.Disk.tells B.Disk.content B.home (calls_of self.old.cluster.past) self.old.nodes cluster place) (RunsFrom B.Disk.tells B.Disk.content B.home (calls_of self.new.cluster.past) self.new.nodes cluster place) }
+        ensures goes { (IsErrOf result SendFault.Memory → ⊥) → Plays (M.given self.old.moves) (network_of self.old.cluster) (M.given self.new.moves) (network_of self.new.cluster) × M.same self.old.moves self.new.moves × (M.seeds self.new.moves ≡ M.seeds self.old.moves) × KeepsBays B.tells B.out B.same self.old.nodes self.new.nodes }
+        ensures falls { Falls (M.given self.old.moves) (network_of self.old.cluster) (M.given self.new.moves) (network_of self.new.cluster) × M.same self.old.moves self.new.moves × (M.seeds self.new.moves ≡ M.seeds self.old.moves) × KeepsBays B.tells B.out B.same self.old.nodes self.new.nodes }
         ensures never { IsErrOf result SendFault.Failed → ⊥ }
+        ensures stuck { IfOk result (λ answer. answer ≡ Told.Stuck PullCause.Fault → HasFailed B.Disk.faults (B.faults self.old.nodes.bays) (B.faults self.new.nodes.bays)) }
+        ensures later_bays { B.faults self.old.nodes.bays ≤ B.faults self.new.nodes.bays }
         ensures count { self.new.faults ≡ self.old.faults }
     {
-        match self.cluster.obey(*order) {
+        match self.cluster.obey(&mut self.nodes, *order) {
             Ok(answer) => Ok(answer),
             Err(_) => Err(SendFault::Memory),
         }
@@ -207,35 +259,42 @@ impl<M: Moves> Fabric for MemFabric<M> {
         self.cluster.queued()
     }
 
+    /// Closes all nodes: their disks go home as they are.
     fn close(&mut self)
         requires open { IsSome (cond self.old.opened self.old.cluster.shape None) }
         ensures later { self.old.faults ≤ self.new.faults }
         ensures opened { cond self.new.opened self.new.cluster.shape None ≡ None }
         ensures told { Some (calls_of self.new.cluster.past) ≡ Some (calls_of self.old.cluster.past) }
-        ensures run { (cluster : Shape) (place : List ℕ) → KeepsState self.old.cluster self.new.cluster }
-        ensures goes { Plays (M.given self.old.moves) (network_of self.old.cluster) (M.given self.new.moves) (network_of self.new.cluster) × M.same self.old.moves self.new.moves × (M.seeds self.new.moves ≡ M.seeds self.old.moves) }
+        ensures run { (cluster : Shape) (place : List ℕ) → KeepsRun (RunsFrom B.Disk.tells B.Disk.content B.home (calls_of self.old.cluster.past) self.old.nodes cluster place) (RunsFrom B.Disk.tells B.Disk.content B.home (calls_of self.new.cluster.past) self.new.nodes cluster place) }
+        ensures goes { Plays (M.given self.old.moves) (network_of self.old.cluster) (M.given self.new.moves) (network_of self.new.cluster) × M.same self.old.moves self.new.moves × (M.seeds self.new.moves ≡ M.seeds self.old.moves) × KeepsBays B.tells B.out B.same self.old.nodes self.new.nodes }
         ensures count { self.new.faults ≡ self.old.faults }
+        ensures home { (n p : ℕ) → is_up self.new.nodes n p ≡ false }
+        ensures torn { has_torn (calls_of self.new.cluster.past) ≡ true → B.Disk.tells → ∥ DiskFailed B.Disk.faults ∥₁ }
+        ensures faults { B.faults self.new.nodes.bays ≡ B.faults self.old.nodes.bays }
     {
+        self.nodes.close();
         self.opened = false;
     }
 
     ghost fresh_did_nothing = { λ a calls f t. fresh_told a.fresh a.cluster calls a.empty f t };
 
-    ghost runs_by_rules = { λ a cluster place opening k r. r.run };
+    ghost runs_by_rules = { λ a cluster place opening k r. (r k.0 k.1).run };
 
-    ghost goes_nowhere = { λ f. (plays_nothing (M.given f.moves) (network_of f.cluster), M.same_self f.moves, refl) };
+    ghost goes_nowhere = { λ f. (plays_nothing (M.given f.moves) (network_of f.cluster), M.same_self f.moves, refl, bays_stay B.tells B.out B.same f.nodes (B.same_self f.nodes.bays)) };
 
     ghost goes_on = { λ f g h p q. (
       plays_on (M.given f.moves) (network_of f.cluster) (M.given g.moves) (network_of g.cluster) (M.given h.moves) (network_of h.cluster) p.0 q.0,
       M.same_on f.moves g.moves h.moves p.1 q.1,
       q.2 ∙ p.2,
+      bays_on B.tells B.out B.same f.nodes g.nodes h.nodes (B.same_on f.nodes.bays g.nodes.bays h.nodes.bays) p.3 q.3,
     ) };
 
-    ghost falls_as_it_goes = { λ f g p. (falls_as_plays (M.given f.moves) (network_of f.cluster) (M.given g.moves) (network_of g.cluster) p.0, p.1, p.2) };
+    ghost falls_as_it_goes = { λ f g p. (falls_as_plays (M.given f.moves) (network_of f.cluster) (M.given g.moves) (network_of g.cluster) p.0, p.1, p.2, p.3) };
 
     ghost falls_on = { λ f g h p q. (
       falls_on (M.given f.moves) (network_of f.cluster) (M.given g.moves) (network_of g.cluster) (M.given h.moves) (network_of h.cluster) p.0 q.0,
       M.same_on f.moves g.moves h.moves p.1 q.1,
       q.2 ∙ p.2,
+      bays_on B.tells B.out B.same f.nodes g.nodes h.nodes (B.same_on f.nodes.bays g.nodes.bays h.nodes.bays) p.3 q.3,
     ) };
 }

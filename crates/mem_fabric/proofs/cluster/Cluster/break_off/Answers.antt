@@ -16,7 +16,6 @@ pub invariant_of-self : goal.invariant_of-self
 invariant_of-self c =
     let old : State = record {
       shape = c.self.inside.shape;
-      replicas = c.self.inside.replicas;
       stopped = c.self.inside.stopped.items;
       requests = c.self.inside.requests.items;
       replies = c.self.inside.replies.items;
@@ -40,7 +39,6 @@ pub returns-clause-network : goal.returns-clause-network
 returns-clause-network c =
     let old : State = record {
       shape = c.self.inside.shape;
-      replicas = c.self.inside.replicas;
       stopped = c.self.inside.stopped.items;
       requests = c.self.inside.requests.items;
       replies = c.self.inside.replies.items;
@@ -64,7 +62,6 @@ pub returns-clause-run : goal.returns-clause-run
 returns-clause-run c =
     let old : State = record {
       shape = c.self.inside.shape;
-      replicas = c.self.inside.replicas;
       stopped = c.self.inside.stopped.items;
       requests = c.self.inside.requests.items;
       replies = c.self.inside.replies.items;

@@ -13,7 +13,6 @@ pub invariant_of-self : goal.invariant_of-self
 invariant_of-self c =
     let old : State = record {
       shape = c.self.inside.shape;
-      replicas = c.self.inside.replicas;
       stopped = c.self.inside.stopped.items;
       requests = c.self.inside.requests.items;
       replies = c.self.inside.replies.items;
@@ -36,7 +35,6 @@ pub returns-clause-network : goal.returns-clause-network
 returns-clause-network c =
     let old : State = record {
       shape = c.self.inside.shape;
-      replicas = c.self.inside.replicas;
       stopped = c.self.inside.stopped.items;
       requests = c.self.inside.requests.items;
       replies = c.self.inside.replies.items;
@@ -59,7 +57,6 @@ pub returns-clause-run : goal.returns-clause-run
 returns-clause-run c =
     let old : State = record {
       shape = c.self.inside.shape;
-      replicas = c.self.inside.replicas;
       stopped = c.self.inside.stopped.items;
       requests = c.self.inside.requests.items;
       replies = c.self.inside.replies.items;

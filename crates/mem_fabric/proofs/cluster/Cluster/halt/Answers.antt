@@ -17,7 +17,6 @@ pub invariant_of-self-2 : goal.invariant_of-self-2
 invariant_of-self-2 c =
     let old : State = record {
       shape = c.self.inside.shape;
-      replicas = c.self.inside.replicas;
       stopped = c.self.inside.stopped.items;
       requests = c.self.inside.requests.items;
       replies = c.self.inside.replies.items;
@@ -45,7 +44,6 @@ pub returns-clause-network : goal.returns-clause-network
 returns-clause-network c =
     let old : State = record {
       shape = c.self.inside.shape;
-      replicas = c.self.inside.replicas;
       stopped = c.self.inside.stopped.items;
       requests = c.self.inside.requests.items;
       replies = c.self.inside.replies.items;
@@ -73,7 +71,6 @@ pub returns-clause-run : goal.returns-clause-run
 returns-clause-run c =
     let old : State = record {
       shape = c.self.inside.shape;
-      replicas = c.self.inside.replicas;
       stopped = c.self.inside.stopped.items;
       requests = c.self.inside.requests.items;
       replies = c.self.inside.replies.items;

@@ -13,7 +13,6 @@ pub invariant_of-self : goal.invariant_of-self
 invariant_of-self c =
     let old : State = record {
       shape = c.self.inside.shape;
-      replicas = c.self.inside.replicas;
       stopped = c.self.inside.stopped.items;
       requests = c.self.inside.requests.items;
       replies = c.self.inside.replies.items;
@@ -35,7 +34,6 @@ pub returns-clause-run : goal.returns-clause-run
 returns-clause-run c =
     let old : State = record {
       shape = c.self.inside.shape;
-      replicas = c.self.inside.replicas;
       stopped = c.self.inside.stopped.items;
       requests = c.self.inside.requests.items;
       replies = c.self.inside.replies.items;

@@ -17,7 +17,6 @@ pub invariant_of-self-2 : goal.invariant_of-self-2
 invariant_of-self-2 c =
     let old : State = record {
       shape = c.self.inside.shape;
-      replicas = c.self.inside.replicas;
       stopped = c.self.inside.stopped.items;
       requests = c.self.inside.requests.items;
       replies = c.self.inside.replies.items;
@@ -48,7 +47,6 @@ pub returns-clause-ok : goal.returns-clause-ok
 returns-clause-ok c =
     let old : State = record {
       shape = c.self.inside.shape;
-      replicas = c.self.inside.replicas;
       stopped = c.self.inside.stopped.items;
       requests = c.self.inside.requests.items;
       replies = c.self.inside.replies.items;

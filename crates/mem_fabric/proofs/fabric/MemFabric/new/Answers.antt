@@ -1,5 +1,6 @@
-use Rattle.mem_fabric.proofs.Playing.{fresh_runs}
+use Rattle.mem_fabric.proofs.Goes.{fresh_runs}
 use Rattle.mem_fabric.proofs.fabric.MemFabric.new.Goals as goal
 
-pub returns-clause-empty : goal.returns-clause-empty
-returns-clause-empty g c = λ cluster place. fresh_runs c.new.result c.new.ensures
+pub returns-clause-holds : goal.returns-clause-holds
+returns-clause-holds g c = λ shape folder opening held.
+    fresh_runs g.B.Disk.Disk.tells g.B.Disk.Disk.content g.B.Bays.home c.new.result c.new-2.result c.args.bays shape folder opening c.new.ensures c.new-2.ensures held

@@ -6,7 +6,7 @@ use Rattle.mem_fabric.proofs.fabric.MemFabricFabric.admin.Goals as goal
 
 pub returns-in-Ok-clause-told : goal.returns-in-Ok-clause-told
 returns-in-Ok-clause-told g c =
-    tells_order c.args.self.now.cluster c.obey.new.self c.args.order.now c.in-Ok.answer (has_order c.args.self.now.opened c.args.self.now.cluster.shape c.args.order.now c.requires.order) c.in-Ok.ensures.obeys
+    tells_order c.args.self.now.cluster c.obey.new.self c.args.order.now c.in-Ok.answer c.in-Ok.ensures.obeys
 
 pub returns-in-Ok-clause-goes : goal.returns-in-Ok-clause-goes
 returns-in-Ok-clause-goes g c = λ _. (
@@ -14,6 +14,7 @@ returns-in-Ok-clause-goes g c = λ _. (
       (has_order c.args.self.now.opened c.args.self.now.cluster.shape c.args.order.now c.requires.order) c.in-Ok.ensures.obeys,
   g.met.M.Moves.same_self c.args.self.now.moves,
   refl,
+  c.in-Ok.ensures.goes.bays,
 )
 
 pub returns-in-Ok-clause-falls : goal.returns-in-Ok-clause-falls
@@ -23,4 +24,5 @@ returns-in-Ok-clause-falls g c = (
       (has_order c.args.self.now.opened c.args.self.now.cluster.shape c.args.order.now c.requires.order) c.in-Ok.ensures.obeys),
   g.met.M.Moves.same_self c.args.self.now.moves,
   refl,
+  c.in-Ok.ensures.goes.bays,
 )

@@ -1,4 +1,5 @@
 use Rattle.std.proofs.Common.{refl}
+use Rattle.mem_fabric.specs.GoingLaws.{bays_stay}
 use Rattle.mem_fabric.specs.PlayedLaws.{falls_as_plays}
 use Rattle.mem_fabric.specs.Sound.{network_of}
 use Rattle.mem_fabric.proofs.Playing.{plays_given}
@@ -9,6 +10,7 @@ returns-else-queued-eq0-clause-goes g c = (
   plays_given (g.M.Moves.given c.args.self.now.moves) (network_of c.args.self.now.cluster) (network_of c.give.new.self) c.give.result c.give.ensures.oldest c.give.ensures.network,
   g.met.M.Moves.same_self c.args.self.now.moves,
   refl,
+  bays_stay g.B.Bays.tells g.B.Bays.out g.B.Bays.same c.args.self.now.nodes (g.met.B.Bays.same_self c.args.self.now.nodes.bays),
 )
 
 pub returns-else-queued-eq0-clause-falls : goal.returns-else-queued-eq0-clause-falls
@@ -17,4 +19,5 @@ returns-else-queued-eq0-clause-falls g c = (
       (plays_given (g.M.Moves.given c.args.self.now.moves) (network_of c.args.self.now.cluster) (network_of c.give.new.self) c.give.result c.give.ensures.oldest c.give.ensures.network),
   g.met.M.Moves.same_self c.args.self.now.moves,
   refl,
+  bays_stay g.B.Bays.tells g.B.Bays.out g.B.Bays.same c.args.self.now.nodes (g.met.B.Bays.same_self c.args.self.now.nodes.bays),
 )

@@ -1,20 +1,65 @@
-use Rattle.std.proofs.Common.{refl}
+use Rattle.std.proofs.Common.{◌≡◌, Err, ap, refl, subst, sym}
+use Rattle.lab_nodes.specs.Holding.{settings_of}
+use Rattle.lab_nodes.specs.Nodes.{AllTidy, is_up}
+use Rattle.lab_nodes.specs.Starting.{IsFirst}
+use Rattle.lab_nodes.specs.declared.fault.NodesFault.{NodesFault}
+use Rattle.lab_nodes.specs.declared.places.Which.{Which}
 use Rattle.mem_fabric.specs.PlayedLaws.{falls_as_plays}
 use Rattle.mem_fabric.specs.Sound.{network_of}
+use Rattle.mem_fabric.proofs.Goes.{home_stays, run_at}
 use Rattle.mem_fabric.proofs.Playing.{plays_open}
 use Rattle.mem_fabric.proofs.fabric.MemFabricFabric.open.Goals as goal
+use Rattle.world_model.specs.declared.order.Refusal.{Refusal}
+
+pub open-requires-clause-tidy : goal.open-requires-clause-tidy
+open-requires-clause-tidy g c = λ t place due disk at_home.
+    subst (λ (b : _). AllTidy g.B.Disk.Disk.content g.B.Bays.home b) (sym (c.args.self.now.kept c.requires.fresh)) (c.look.ensures t)
+    (settings_of c.args.shape.now) c.args.folder.now _ _ disk at_home
+
+pub returns-in-Ok-clause-run : goal.returns-in-Ok-clause-run
+returns-in-Ok-clause-run g c =
+    run_at g.B.Bays.tells g.B.Disk.Disk.tells g.B.Disk.Disk.content g.B.Disk.Disk.faults g.B.Bays.home g.B.Bays.out g.B.Bays.same c.args.self.now.cluster c.open-in-Ok.new.self c.args.self.now.nodes c.open.new.self c.args.shape.now c.args.folder.now c.open-in-Ok.ensures.run c.open.ensures.holds
 
 pub returns-in-Ok-clause-goes : goal.returns-in-Ok-clause-goes
 returns-in-Ok-clause-goes g c = (
-  plays_open (g.M.Moves.given c.args.self.now.moves) c.args.self.now.cluster c.open.new.self c.args.shape.now (c.args.self.now.empty c.requires.fresh) c.in-Ok.ensures.ok,
+  plays_open (g.M.Moves.given c.args.self.now.moves) c.args.self.now.cluster c.open-in-Ok.new.self c.args.shape.now (c.args.self.now.empty c.requires.fresh) c.open-in-Ok.ensures.network,
   g.met.M.Moves.same_self c.args.self.now.moves,
   refl,
+  record { same_bays = c.open.ensures.same; own = c.open.ensures.out },
 )
 
 pub returns-in-Ok-clause-falls : goal.returns-in-Ok-clause-falls
 returns-in-Ok-clause-falls g c = (
-  falls_as_plays (g.M.Moves.given c.args.self.now.moves) (network_of c.args.self.now.cluster) (g.M.Moves.given c.args.self.now.moves) (network_of c.open.new.self)
-      (plays_open (g.M.Moves.given c.args.self.now.moves) c.args.self.now.cluster c.open.new.self c.args.shape.now (c.args.self.now.empty c.requires.fresh) c.in-Ok.ensures.ok),
+  falls_as_plays (g.M.Moves.given c.args.self.now.moves) (network_of c.args.self.now.cluster) (g.M.Moves.given c.args.self.now.moves) (network_of c.open-in-Ok.new.self)
+      (plays_open (g.M.Moves.given c.args.self.now.moves) c.args.self.now.cluster c.open-in-Ok.new.self c.args.shape.now (c.args.self.now.empty c.requires.fresh) c.open-in-Ok.ensures.network),
   g.met.M.Moves.same_self c.args.self.now.moves,
   refl,
+  record { same_bays = c.open.ensures.same; own = c.open.ensures.out },
 )
+
+pub returns-in-Err-Refused-clause-refused : goal.returns-in-Err-Refused-clause-refused
+returns-in-Err-Refused-clause-refused g c = λ refusal is t.
+    let same : c.in-Err-Refused.refusal ≡ refusal = cc is in
+    subst (λ (r : Refusal). IsFirst g.B.Disk.Disk.tells g.B.Disk.Disk.content g.B.Disk.Disk.size Which.All c.args.shape.now c.args.folder.now (g.B.Bays.home c.args.self.now.nodes.bays) r) same
+    (c.in-Err-Refused.ensures.refused c.in-Err-Refused.refusal (ap (λ (f : NodesFault). Err f) c.in-Err-Refused.field-0-is) t)
+
+pub returns-in-Err-Failed-clause-stays : goal.returns-in-Err-Failed-clause-stays
+returns-in-Err-Failed-clause-stays g c =
+    home_stays g.B.Disk.Disk.tells g.B.Disk.Disk.content g.B.Bays.home c.args.self.now.nodes c.open.new.self c.args.shape.now c.args.folder.now (c.args.self.now.unopened c.requires.fresh) c.in-Err-Failed.ensures.err c.open.ensures.holds
+
+pub returns-in-Err-Refused-clause-stays : goal.returns-in-Err-Refused-clause-stays
+returns-in-Err-Refused-clause-stays g c =
+    home_stays g.B.Disk.Disk.tells g.B.Disk.Disk.content g.B.Bays.home c.args.self.now.nodes c.open.new.self c.args.shape.now c.args.folder.now (c.args.self.now.unopened c.requires.fresh) c.in-Err-Refused.ensures.err c.open.ensures.holds
+
+pub returns-in-Err-Memory-clause-stays : goal.returns-in-Err-Memory-clause-stays
+returns-in-Err-Memory-clause-stays g c =
+    home_stays g.B.Disk.Disk.tells g.B.Disk.Disk.content g.B.Bays.home c.args.self.now.nodes c.open.new.self c.args.shape.now c.args.folder.now (c.args.self.now.unopened c.requires.fresh) c.in-Err-Memory.ensures.err c.open.ensures.holds
+
+pub returns-in-Err-Failed-clause-shut : goal.returns-in-Err-Failed-clause-shut
+returns-in-Err-Failed-clause-shut g c = λ n p. ap (λ (s : _). is_up s n p) c.in-Err-Failed.ensures.err
+
+pub returns-in-Err-Refused-clause-shut : goal.returns-in-Err-Refused-clause-shut
+returns-in-Err-Refused-clause-shut g c = λ n p. ap (λ (s : _). is_up s n p) c.in-Err-Refused.ensures.err
+
+pub returns-in-Err-Memory-clause-shut : goal.returns-in-Err-Memory-clause-shut
+returns-in-Err-Memory-clause-shut g c = λ n p. ap (λ (s : _). is_up s n p) c.in-Err-Memory.ensures.err

@@ -1,4 +1,5 @@
 use Rattle.std.proofs.Common.{refl}
+use Rattle.mem_fabric.specs.GoingLaws.{bays_stay}
 use Rattle.mem_fabric.specs.PlayedLaws.{falls_as_plays}
 use Rattle.mem_fabric.specs.Sound.{network_of}
 use Rattle.mem_fabric.proofs.Playing.{plays_send, has_node}
@@ -10,6 +11,7 @@ returns-in-Ok-clause-goes g c = λ _. (
       (has_node c.args.self.now.opened c.args.self.now.cluster.shape c.args.node c.requires.node) c.in-Ok.ensures.ok,
   g.met.M.Moves.same_self c.args.self.now.moves,
   refl,
+  bays_stay g.B.Bays.tells g.B.Bays.out g.B.Bays.same c.args.self.now.nodes (g.met.B.Bays.same_self c.args.self.now.nodes.bays),
 )
 
 pub returns-in-Ok-clause-falls : goal.returns-in-Ok-clause-falls
@@ -19,6 +21,7 @@ returns-in-Ok-clause-falls g c = (
       (has_node c.args.self.now.opened c.args.self.now.cluster.shape c.args.node c.requires.node) c.in-Ok.ensures.ok),
   g.met.M.Moves.same_self c.args.self.now.moves,
   refl,
+  bays_stay g.B.Bays.tells g.B.Bays.out g.B.Bays.same c.args.self.now.nodes (g.met.B.Bays.same_self c.args.self.now.nodes.bays),
 )
 
 pub returns-in-Ok-send-clause-goes : goal.returns-in-Ok-send-clause-goes
@@ -27,6 +30,7 @@ returns-in-Ok-send-clause-goes g c = λ _. (
       (has_node c.args.self.now.opened c.args.self.now.cluster.shape c.args.node c.requires.node) c.in-Ok-send.ensures.ok,
   g.met.M.Moves.same_self c.args.self.now.moves,
   refl,
+  bays_stay g.B.Bays.tells g.B.Bays.out g.B.Bays.same c.args.self.now.nodes (g.met.B.Bays.same_self c.args.self.now.nodes.bays),
 )
 
 pub returns-in-Ok-send-clause-falls : goal.returns-in-Ok-send-clause-falls
@@ -36,4 +40,5 @@ returns-in-Ok-send-clause-falls g c = (
       (has_node c.args.self.now.opened c.args.self.now.cluster.shape c.args.node c.requires.node) c.in-Ok-send.ensures.ok),
   g.met.M.Moves.same_self c.args.self.now.moves,
   refl,
+  bays_stay g.B.Bays.tells g.B.Bays.out g.B.Bays.same c.args.self.now.nodes (g.met.B.Bays.same_self c.args.self.now.nodes.bays),
 )
