@@ -19,4 +19,7 @@ pub mod EndLemmas
 pub mod RunOnLemmas
 pub mod TimelyLemmas
 pub mod RecordLemmas
+pub mod LaterLemmas
+pub mod DiskLemmas
 pub mod ClusterLemmas
+pub mod TestLemmas

@@ -1,6 +1,5 @@
 -- The record behind a run.
 use Rattle.std.proofs.Common.{◌≡◌, ℕ, List, Option, refl, subst}
-use Rattle.mem_fabric.specs.Network.{nothing_held}
 use Rattle.mem_fabric.specs.Played.{IsPlayed}
 use Rattle.router_core.specs.Fits.{RouterView}
 use Rattle.router_core.specs.Removals.{DeletesWhatFailed}
@@ -12,11 +11,10 @@ use Rattle.world_model.specs.declared.history.HistoryMark.{HistoryMark}
 use Rattle.world_model.specs.declared.moves.Move.{Move}
 use Rattle.world_model.specs.declared.shape.Shape.{Shape}
 use Rattle.world_model.specs.declared.step.Called.{Called}
-use Rattle.world_model.specs.Lists.{Each}
 use Rattle.world_model.specs.Record.{Record}
 use Rattle.world_model.specs.Router.{IsKept}
 use Rattle.world_model.specs.Rules.{Rules}
-use Rattle.world_model.specs.Safe.{DrawsFresh, DrawsNew, IsSound, Safe}
+use Rattle.world_model.specs.Safe.{DrawsNew, IsSound, Safe}
 use Rattle.world_model.specs.Told.{told, weave}
 use Rattle.world_model.specs.World.{Cells, Run}
 use Rattle.world_model.proofs.ToldLaws.{woven_runs}
@@ -35,21 +33,15 @@ stage_deletes shape r Stage.Idle owns = owns.going.deletes
 stage_deletes shape r (Stage.UnderWay live) owns = owns.under_way.going.deletes
 stage_deletes shape r (Stage.Over operation outcome) owns = owns.over.going.deletes
 
--- replicas that hold nothing are sound, and name no id
-nothing_sound : IsSound nothing_held
-nothing_sound n p m q id b c held other = absurd cc
-
-nothing_new : (r : Record) → Each DrawsFresh r → DrawsNew nothing_held r
-nothing_new r fresh = record { once = fresh; cells = λ id drawn n p. refl; listed = λ id drawn n p top held is. absurd cc }
-
 abbrev pub RunsAreSafe : Type 0
 RunsAreSafe = (rules : Rules) (opening : Cells) (record' : Record) → IsSound opening → DrawsNew opening record' → Run opening record' → IsKept rules record' → Safe rules opening record'
 
-pub recorded : (shape : Shape) (router : RouterView) (moves : List Move) (calls : List Called) (marks : List HistoryMark) → RunsAreSafe → router.shape ≡ shape → IsPlayed shape moves calls → Run nothing_held (told calls)
-    → IsWoven (Stands router) calls marks → IsRecorded shape moves marks
-recorded shape router moves calls marks safe same played run w =
+-- what was told of calls, from the cells that the disks are known to have stood for, and what holds of the disks behind them
+pub recorded : (shape : Shape) (opens : List Called → Cells → Type 0) (leaves : List Called → Type 0) (router : RouterView) (moves : List Move) (calls : List Called) (marks : List HistoryMark) → RunsAreSafe → router.shape ≡ shape → IsPlayed shape moves calls
+    → ((opening : Cells) → opens calls opening → Run opening (told calls)) → leaves calls → IsWoven (Stands router) calls marks → IsRecorded shape opens leaves moves marks
+recorded shape opens leaves router moves calls marks safe same played run left w =
     let r = weave w.placed calls in
-    let ran : Run nothing_held r = woven_runs nothing_held w.placed calls w.stands.only run in
+    let ran : (opening : Cells) → opens calls opening → Run opening r = λ opening held. woven_runs opening w.placed calls w.stands.only (run opening held) in
     let kept : IsKept (simple_rules shape) r = subst (λ (s : Shape). IsKept (simple_rules s) r) same (stage_kept router.shape r router.stage w.so.owns.stage) in
     record {
       calls = calls;
@@ -58,9 +50,10 @@ recorded shape router moves calls marks safe same played run w =
       woven = record { placed = w.placed; stands = w.stands; same = w.same; so = refl };
       run = ran;
       kept = kept;
-      safe = λ fresh. safe (simple_rules shape) nothing_held r nothing_sound (nothing_new r fresh) ran kept;
+      safe = λ opening held sound new. safe (simple_rules shape) opening r sound new (ran opening held) kept;
       in_time = open_in_time shape r;
       deletes = subst (λ (s : Shape). DeletesWhatFailed s r) same (stage_deletes router.shape r router.stage w.so.owns.stage);
+      left = left;
     }
 
 -- a tie seen otherwise

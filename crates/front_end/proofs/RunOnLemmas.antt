@@ -30,4 +30,4 @@ pub on_map : {F : Type 0} (t : Telling F) (s s' : Shape) (old new : F) (holds mo
 on_map t s s' old new holds more same f on = record { router = on.router; shaped = on.shaped ∙ same; went = on.went; run = on.run; so = f _ on.so }
 
 pub was_map : {F : Type 0} (t : Telling F) (s s' : Shape) (old new : F) (holds more : (List HistoryMark → Type 0) → Type 0) → s ≡ s' → ((tie : List HistoryMark → Type 0) → holds tie → more tie) → WasOn t s old new holds → WasOn t s' old new more
-was_map t s s' old new holds more same f was = record { between = was.between; was = on_map t s s' old was.between holds more same f was.was; fell = was.fell }
+was_map t s s' old new holds more same f was = record { between = was.between; was = on_map t s s' old was.between holds more same f was.was; fell = was.fell; run = was.run }

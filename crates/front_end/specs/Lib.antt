@@ -9,5 +9,6 @@ pub mod Outline
 pub mod Kept
 pub mod Session
 pub mod Lines
+pub mod Disks
 pub mod Run
 pub mod Running

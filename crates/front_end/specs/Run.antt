@@ -4,27 +4,28 @@ use Rattle.front_end.specs.declared.history.Entry.{Entry}
 use Rattle.front_end.specs.declared.run.Ending.{Ending}
 use Rattle.front_end.specs.declared.run.Ending.TheVariants.{AtEnd, AtEndLine, PastLimit}
 use Rattle.front_end.specs.declared.script.Command.TheVariants as command
-use Rattle.mem_fabric.specs.Network.{nothing_held}
 use Rattle.mem_fabric.specs.Played.{IsPlayed}
 use Rattle.router_core.specs.Removals.{DeletesWhatFailed}
 use Rattle.router_core.specs.Stages.{simple_rules}
 use Rattle.router_core.specs.Ties.{IsWoven}
 use Rattle.world_model.specs.declared.history.HistoryMark.{HistoryMark}
 use Rattle.world_model.specs.declared.moves.Move.{Move}
+use Rattle.world_model.specs.declared.order.Refusal.{Refusal}
 use Rattle.world_model.specs.declared.shape.Shape.{Shape}
 use Rattle.world_model.specs.declared.step.Called.{Called}
-use Rattle.world_model.specs.Lists.{Each, Has}
+use Rattle.world_model.specs.Lists.{Has}
 use Rattle.world_model.specs.Notes
 use Rattle.world_model.specs.Notes.{Asked, ends, events_in, is_open}
 use Rattle.world_model.specs.Record.{Record}
 use Rattle.world_model.specs.Router.{IsKept}
-use Rattle.world_model.specs.Safe.{DrawsFresh, Safe}
+use Rattle.world_model.specs.Safe.{DrawsNew, IsSound, Safe}
 use Rattle.world_model.specs.Shape.{replica_of}
-use Rattle.world_model.specs.World.{Run}
+use Rattle.world_model.specs.World.{Cells, Run}
+use Rattle.front_end.specs.Disks.{Disks, LeavesLater}
 use Rattle.front_end.specs.History.{start, after_all, IsOrdered, DrawsInOrder, newest_first}
 use Rattle.front_end.specs.Script.{asked, tags_after, command_of, OnlyLastEnds}
 use Rattle.front_end.specs.Past.{marks_of, Follows, WaitsStandFirst, EndsWhileWaiting}
-use Rattle.front_end.specs.Transcript.{transcript_of}
+use Rattle.front_end.specs.Transcript.{refusal_line, transcript_of}
 use Rattle.front_end.specs.Lines.{HasNoEnd, BeginsWith}
 use Rattle.front_end.specs.Session.{has_bad}
 
@@ -146,19 +147,20 @@ abbrev pub RequestsEndInTime : Shape → Record → Type 0
 RequestsEndInTime shape record' = (a : Asked) → Has (Notes.asked record') a → IsSome (replica_of shape a.partition a.node) → is_open (ends shape record') a ≡ true → events_in record' < a.events + 65536
 
 -- What is told of a run by its moves and marks: a record of the network's steps and events and of a session's items, woven. The steps are those of an
--- opening, of sends, and of just these moves, in order and by the rule of moves, on replicas that held nothing; they are allowed. A router kept
--- its rules, and where the ids that it drew are new the record is safe. No request to a replica stays open for 65,536 events. Of each operation that
--- ended, and not as a put that is ok, each replica was asked to delete what it drew.
-pub record IsRecorded (shape : Shape) (moves : List Move) (marks : List HistoryMark) : Type 0 where
+-- opening, of sends, of orders, of events that waited, and of just these moves, in order and by the rule of moves; a router kept its rules. Where the
+-- disks stood for known cells, the steps are allowed from these, and where no drawn id is named there or was drawn before, the record is safe. No request
+-- to a replica stays open for 65,536 events. Of each operation that ended, and not as a put that is ok, each replica was asked to delete what it drew.
+pub record IsRecorded (shape : Shape) (opens : List Called → Cells → Type 0) (leaves : List Called → Type 0) (moves : List Move) (marks : List HistoryMark) : Type 0 where
   pub calls : List Called
   pub played : IsPlayed shape moves calls
   pub record' : Record
   pub woven : IsWoven (λ r. r ≡ record') calls marks
-  pub run : Run nothing_held record'
+  pub run : (opening : Cells) → opens calls opening → Run opening record'
   pub kept : IsKept (simple_rules shape) record'
-  pub safe : Each DrawsFresh record' → Safe (simple_rules shape) nothing_held record'
+  pub safe : (opening : Cells) → opens calls opening → IsSound opening → DrawsNew opening record' → Safe (simple_rules shape) opening record'
   pub in_time : RequestsEndInTime shape record'
   pub deletes : DeletesWhatFailed shape record'
+  pub left : leaves calls
 
 -- Nothing was read, drawn or written.
 pub record IsUntouched (o : Outside) : Type 0 where
@@ -167,28 +169,47 @@ pub record IsUntouched (o : Outside) : Type 0 where
   pub random : o.words_new ≡ o.words_old
 
 -- The run came to the end of its script, or it stopped because the input failed, or the output did. Each move that was given was made.
-pub record HasPlayed (shape : Shape) (given given' : List Move) (status : ℕ) (o : Outside) : Type 0 where
+pub record HasPlayed (shape : Shape) (disks : Disks) (given given' : List Move) (status : ℕ) (o : Outside) : Type 0 where
   pub moves : List Move
   pub gave : given' ≡ given ++ moves
-  pub run : HasFinished shape (IsRecorded shape moves) status o
-      ⊎ ((status ≡ 3) × HasStopped shape (IsRecorded shape moves) o o.words_new)
-      ⊎ ((status ≡ 4) × WasCutOff shape (IsRecorded shape moves) o)
+  pub run : HasFinished shape (IsRecorded shape disks.opens disks.leaves moves) status o
+      ⊎ ((status ≡ 3) × HasStopped shape (IsRecorded shape disks.opens disks.leaves moves) o o.words_new)
+      ⊎ ((status ≡ 4) × WasCutOff shape (IsRecorded shape disks.opens disks.leaves moves) o)
 
--- The run stopped for want of memory: what stands is of the lines before, and moves may have been given since. The line that was refused
--- memory may have taken random words.
-pub record HasStarved (shape : Shape) (given given' : List Move) (o : Outside) : Type 0 where
+-- The run stopped for want of memory: what stands is of the lines before, and moves may have been given since, and calls told. The line that was
+-- refused memory may have taken random words.
+pub record HasStarved (shape : Shape) (disks : Disks) (given given' : List Move) (o : Outside) : Type 0 where
   pub moves : List Move
   pub since : List Move
   pub gave : given' ≡ given ++ (moves ++ since)
   pub words : Option (ℕ → ℕ)
-  pub stopped : HasStopped shape (IsRecorded shape moves) o words
+  pub stopped : HasStopped shape (IsRecorded shape disks.opens (LeavesLater disks.leaves (moves ++ since)) moves) o words
 
--- What a run may leave on a cluster of this shape: it came to its end or stopped, or was refused memory at a line, or before all lines.
-abbrev pub HasRun : Shape → List Move → List Move → ℕ → Outside → Type 0
-HasRun shape given given' status o =
-    HasPlayed shape given given' status o
-    ⊎ ((status ≡ 6) × HasStarved shape given given' o)
-    ⊎ ((status ≡ 6) × IsUntouched o × ((since : List Move) × (given' ≡ given ++ since)))
+-- No disks were opened, and what they hold stays: the outside failed, or there was no memory. Nothing was read, drawn, written or moved.
+pub record WasUnopened (disks : Disks) (given given' : List Move) (o : Outside) : Type 0 where
+  pub untouched : IsUntouched o
+  pub moves : given' ≡ given
+  pub stay : disks.stay
+
+-- A disk was refused, and what the disks hold stays: nothing was read, drawn or moved, and the line that says which one it is, and why, was
+-- written, or a front of it where the output failed.
+pub record WasTurnedAway (disks : Disks) (status : ℕ) (given given' : List Move) (o : Outside) : Type 0 where
+  pub source : o.left_new ≡ o.left_old
+  pub random : o.words_new ≡ o.words_old
+  pub moves : given' ≡ given
+  pub stay : disks.stay
+  pub refusal : Refusal
+  pub cause : disks.refuses refusal
+  pub answer : ((status ≡ 9) × Wrote o.taken_old o.taken_new (λ wrote. wrote ≡ refusal_line refusal)) ⊎ ((status ≡ 4) × Wrote o.taken_old o.taken_new (IsFront (refusal_line refusal)))
+
+-- What a run may leave on a cluster of this shape: it came to its end or stopped, or was refused memory at a line, or before all lines its disks
+-- weren't opened.
+abbrev pub HasRun : Shape → Disks → List Move → List Move → ℕ → Outside → Type 0
+HasRun shape disks given given' status o =
+    HasPlayed shape disks given given' status o
+    ⊎ ((status ≡ 6) × HasStarved shape disks given given' o)
+    ⊎ (((status ≡ 5) ⊎ (status ≡ 6)) × WasUnopened disks given given' o)
+    ⊎ WasTurnedAway disks status given given' o
 
 -- Words outside the grammar: nothing was read, drawn or moved, and the line that says so was written, or a front of it where the output failed.
 pub record WasRefused (status : ℕ) (given given' : List Move) (o : Outside) : Type 0 where

@@ -95,3 +95,4 @@ pub record WasOn {F : Type 0} (t : Telling F) (shape : Shape) (old new : F) (hol
   pub between : F
   pub was : IsOn t shape old between holds
   pub fell : t.falls between new
+  pub run : StillRuns t between new

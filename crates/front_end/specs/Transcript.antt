@@ -10,6 +10,7 @@ use Rattle.world_model.specs.declared.history.HistoryMark.{HistoryMark}
 use Rattle.world_model.specs.declared.history.HistoryMark.TheVariants.{Begin, Drew, End, Ordered}
 use Rattle.world_model.specs.declared.order.Order.{Order}
 use Rattle.world_model.specs.declared.order.PullCause.{PullCause}
+use Rattle.world_model.specs.declared.order.Refusal.{Refusal}
 use Rattle.world_model.specs.declared.order.Told.{Told}
 use Rattle.world_model.specs.declared.order.What.{What}
 use Rattle.front_end.specs.declared.history.Entry.{Entry}
@@ -96,6 +97,10 @@ told_words _ = []
 
 abbrev pub ordered_line : Order → Told → List ℕ
 ordered_line order told = order_words order ++ codes " " ++ told_words told ++ 10 ∷ []
+
+-- a disk that isn't opened, by its node and its partition, so that no line of the script is run
+abbrev pub refusal_line : Refusal → List ℕ
+refusal_line refusal = codes "refused " ++ decimal refusal.node ++ codes " " ++ decimal refusal.partition ++ codes " " ++ what_words refusal.what ++ 10 ∷ []
 
 -- the network failed
 abbrev pub failed_line : Order → List ℕ

@@ -17,7 +17,7 @@ pub use run::Ending;
 pub use script::{Command, Target, read_line};
 pub use session::Session;
 pub use tags::{Tag, Tags};
-pub use transcript::{write_entry, write_outcome};
+pub use transcript::{write_entry, write_outcome, write_refusal};
 
 #[cfg(test)]
 mod tests;

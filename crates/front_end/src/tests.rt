@@ -1,19 +1,25 @@
 //! Whole runs, by the top call.
 
+ghost use Rattle.lab_nodes.specs.Nodes.{AllTidy};
+
 use super::*;
 use blob_id::Words;
+use disk_core::{Bays, Disk, FileBays, FuseBays, FuseDisk, MemBays, MemDisk, Pick};
 use outside::{BytesSink, BytesSource, CountRandom, FailRandom, Random};
 use std::alloc::Global;
+use std::fs;
 use std::test::Fail;
 use world_model::{HistoryMark, ListMoves, Move, Order, PullCause, Refusal, Told, What};
 
 const BEGUN: &[u8] = b"a begun\na drew 0100000000000000000040008000000000000000\n";
 
+/// These words, and behind them those for the shortest logs that hold a whole chunk.
 fn words_of(alloc: Global, all: &[&str]) -> Result<Words, Fail> {
     let mut words = Words::new(alloc);
     for word in all {
         words.push(alloc, word)?;
     }
+    words.push(alloc, "--segment=66736")?;
     Ok(words)
 }
 
@@ -23,13 +29,25 @@ fn script_of(alloc: Global, script: &[u8], fails: Vec<u64>) -> Result<BytesSourc
     Ok(BytesSource::new(bytes, fails))
 }
 
-/// What a run answers and writes, by the moves and then by those of the plain schedule.
-fn run(
+/// Bays in memory without disks, whose openings with these numbers fail.
+fn new_bays(alloc: Global, fails: Vec<u64>) -> MemBays
+    ensures { AllTidy ⟦<MemDisk as Disk>⟧.content ⟦<MemBays as Bays>⟧.home result }
+{
+    MemBays::new(alloc, Pick::Drop, fails)
+}
+
+/// What a run over these bays answers and writes, by the moves and then by those of the plain schedule.
+fn run_over<B: Bays>(
     alloc: Global,
     words: &[&str],
     script: &[u8],
+    bays: &mut B,
     moves: Vec<Move>,
-) -> Result<(u8, BytesSink), Fail> {
+) -> Result<(u8, BytesSink), Fail>
+where
+    B::Disk: Drop,
+    requires { B.Disk.tells → AllTidy B.Disk.content B.home bays.old }
+{
     let words = words_of(alloc, words)?;
     let mut input = script_of(alloc, script, Vec::new(alloc))?;
     let mut output = BytesSink::new(alloc, Vec::new(alloc));
@@ -40,10 +58,22 @@ fn run(
         &words,
         &mut input,
         &mut output,
+        bays,
         &mut moves,
         &mut random,
     );
     Ok((status, output))
+}
+
+/// The same over bays in memory with no disk.
+fn run(
+    alloc: Global,
+    words: &[&str],
+    script: &[u8],
+    moves: Vec<Move>,
+) -> Result<(u8, BytesSink), Fail> {
+    let mut bays = new_bays(alloc, Vec::new(alloc));
+    run_over(alloc, words, script, &mut bays, moves)
 }
 
 /// Whether bytes are those of the put's first lines and then these.
@@ -467,8 +497,17 @@ fn run_failing<U: Random>(
     let words = words_of(alloc, &["run", "--nodes", "1"])?;
     let mut input = script_of(alloc, b"put a hex 61\nwait\n", reads)?;
     let mut output = BytesSink::new(alloc, writes);
+    let mut bays = new_bays(alloc, Vec::new(alloc));
     let mut moves = ListMoves::new(alloc, Vec::new(alloc));
-    let status = run_lab(alloc, &words, &mut input, &mut output, &mut moves, random);
+    let status = run_lab(
+        alloc,
+        &words,
+        &mut input,
+        &mut output,
+        &mut bays,
+        &mut moves,
+        random,
+    );
     Ok((status, output.bytes().len()))
 }
 
@@ -497,5 +536,167 @@ fn failures_of_the_outside_are_told(rt: HostRuntime) -> Result<(), Fail> {
         run_failing(alloc, Vec::new(alloc), Vec::new(alloc), &mut sure)?,
         (0, 102)
     );
+    Ok(())
+}
+
+/// Sessions over the same files, each with its own words: what they answer and write, one behind the other.
+fn run_twice(
+    rt: HostRuntime,
+    folder: &str,
+    words: [&[&str]; 2],
+    scripts: [&[u8]; 2],
+) -> Result<[(u8, BytesSink); 2], Fail> {
+    let alloc = rt.alloc();
+    let mut bays = FileBays::new(alloc, rt);
+    let first = run_over(alloc, words[0], scripts[0], &mut bays, Vec::new(alloc))?;
+    let second = run_over(alloc, words[1], scripts[1], &mut bays, Vec::new(alloc))?;
+    fs::remove_dir_all(&rt, folder)?;
+    Ok([first, second])
+}
+
+#[test]
+fn a_later_session_gets_what_an_earlier_one_put(rt: HostRuntime) -> Result<(), Fail> {
+    let [first, second] = run_twice(
+        rt,
+        "front_end_test_kept",
+        [
+            &["run", "--partitions=1", "--folder=front_end_test_kept"],
+            &[
+                "run",
+                "--partitions=1",
+                "--folder",
+                "front_end_test_kept",
+                "--ids=1",
+            ],
+        ],
+        [
+            b"put a hex 6161\nwait\nstop 1\nstop 2\nstop 3\nrestart 1\nrestart 2\nrestart 3\n",
+            b"get b 0100000000000000000040008000000000000000\nwait\nput c hex 6262\nwait\n",
+        ],
+    )?;
+    assert_eq!(rt; first.0, 0);
+    let rest =
+        b"a ok 0100000000000000000040008000000000000000\nstop 1 ok\nstop 2 ok\nstop 3 ok\nrestart 1 ok\nrestart 2 ok\nrestart 3 ok\n";
+    assert!(rt; is_begun_and(first.1.bytes(), rest));
+    assert_eq!(rt; second.0, 0);
+    assert_eq!(rt;
+        second.1.bytes(),
+        b"b begun\nb ok 2 6161\nc begun\nc drew 0100000000000000000040018000000000000000\nc ok 0100000000000000000040018000000000000000\n".as_slice()
+    );
+    Ok(())
+}
+
+#[test]
+fn a_disk_of_other_numbers_is_refused(rt: HostRuntime) -> Result<(), Fail> {
+    let [first, second] = run_twice(
+        rt,
+        "front_end_test_index",
+        [
+            &[
+                "run",
+                "--nodes=1",
+                "--index=4",
+                "--folder=front_end_test_index",
+            ],
+            &[
+                "run",
+                "--nodes=1",
+                "--index=8",
+                "--folder=front_end_test_index",
+            ],
+        ],
+        [b"put a hex 6161\n", b"put a hex 6161\n"],
+    )?;
+    assert_eq!(rt; first.0, 0);
+    assert_eq!(rt; second.0, 9);
+    assert_eq!(rt; second.1.bytes(), b"refused 1 0 othershape\n".as_slice());
+    Ok(())
+}
+
+#[test]
+fn a_disk_of_another_size_is_refused(rt: HostRuntime) -> Result<(), Fail> {
+    let [first, second] = run_twice(
+        rt,
+        "front_end_test_size",
+        [
+            &[
+                "run",
+                "--nodes=1",
+                "--segments=2",
+                "--folder=front_end_test_size",
+            ],
+            &[
+                "run",
+                "--nodes=1",
+                "--segments=3",
+                "--folder=front_end_test_size",
+            ],
+        ],
+        [b"put a hex 6161\n", b"put a hex 6161\n"],
+    )?;
+    assert_eq!(rt; first.0, 0);
+    assert_eq!(rt; second.0, 9);
+    assert_eq!(rt;
+        second.1.bytes(),
+        b"refused 1 0 othersize 137568\n".as_slice()
+    );
+    Ok(())
+}
+
+#[test]
+fn bays_that_fail_are_told(rt: HostRuntime) -> Result<(), Fail> {
+    let alloc = rt.alloc();
+    let mut bays = new_bays(alloc, vec![in alloc; 1]?);
+    let (status, output) = run_over(
+        alloc,
+        &["run", "--nodes=1"],
+        b"put a hex 6161\n",
+        &mut bays,
+        Vec::new(alloc),
+    )?;
+    assert_eq!(rt; status, 5);
+    assert!(rt; output.bytes().is_empty());
+    Ok(())
+}
+
+#[test]
+fn a_put_to_a_full_log_is_told(rt: HostRuntime) -> Result<(), Fail> {
+    let alloc = rt.alloc();
+    // Of two segments one is kept free, and the first blob leaves less than 1,200 bytes of the other one.
+    let mut script = Vec::new(alloc);
+    add_put(&mut script, b'a', 65_536)?;
+    add_put(&mut script, b'b', 1_200)?;
+    let (status, output) = run(
+        alloc,
+        &["run", "--nodes=1", "--partitions=1", "--segments=2"],
+        script.as_slice(),
+        Vec::new(alloc),
+    )?;
+    assert_eq!(rt; status, 0);
+    let rest =
+        b"a ok 0100000000000000000040008000000000000000\nb begun\nb drew 0100000000000000000040008000000000000001\nb unavailable 0100000000000000000040008000000000000001 1:full\n";
+    assert!(rt; is_begun_and(output.bytes(), rest));
+    Ok(())
+}
+
+/// The same bays, of which the disk of node 1 and partition 0 passes so many calls, and then fails until it is stopped.
+fn fused_bays(alloc: Global, passes: u64) -> FuseBays
+    ensures { AllTidy ⟦<FuseDisk<MemDisk> as Disk>⟧.content ⟦<FuseBays as Bays>⟧.home result }
+{
+    let bays = MemBays::new(alloc, Pick::Drop, Vec::new(alloc));
+    FuseBays::new(bays, 1, 0, passes)
+}
+
+#[test]
+fn a_disk_that_fails_is_down_until_it_is_opened_again(rt: HostRuntime) -> Result<(), Fail> {
+    let alloc = rt.alloc();
+    let mut bays = fused_bays(alloc, 10);
+    let script = b"put a hex 61\nput b hex 62\nwait\nstop 1\nrestart 1\nput c hex 63\nwait\n";
+    let words = ["run", "--nodes=1", "--partitions=1"];
+    let (status, output) = run_over(alloc, &words, script, &mut bays, Vec::new(alloc))?;
+    assert_eq!(rt; status, 0);
+    let rest =
+        b"a unavailable 0100000000000000000040008000000000000000 1:fault\nb begun\nb drew 0100000000000000000040008000000000000001\nb unavailable 0100000000000000000040008000000000000001 1:down\nstop 1 ok\nrestart 1 ok\nc begun\nc drew 0100000000000000000040008000000000000002\nc ok 0100000000000000000040008000000000000002\n";
+    assert!(rt; is_begun_and(output.bytes(), rest));
     Ok(())
 }

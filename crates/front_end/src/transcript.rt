@@ -3,7 +3,7 @@
 ghost use Rattle.std.specs.Prelude.{◌≡◌, ◌<◌, ◌++◌, ◌∷◌, [], length, take, codes, flat_map, slice_index, OnOk, OnErr};
 ghost use Rattle.std.specs.Fmt.{decimal};
 ghost use Rattle.hex.specs.Hex.{encode_lower, lower_digits};
-ghost use Rattle.front_end.specs.Transcript.{spelled_bytes, sized_bytes, cause_word, failure_words, failures_words, properties_words, type_words, order_words, ordered_line, outcome_words, told_words, what_words, entry_line, bad_line, failed_line};
+ghost use Rattle.front_end.specs.Transcript.{spelled_bytes, sized_bytes, cause_word, failure_words, failures_words, properties_words, type_words, order_words, ordered_line, outcome_words, told_words, what_words, entry_line, bad_line, failed_line, refusal_line};
 ghost use Rattle.front_end.specs.Pieces.{piece_text, BeginsWith};
 
 use crate::history::Entry;
@@ -11,7 +11,7 @@ use crate::tags::Tags;
 use blob_id::{BlobId, Memory};
 use itoa::Buffer;
 use quorum_op::{Cause, Failures, Outcome};
-use world_model::{HistoryMark, Order, PullCause, Told, What};
+use world_model::{HistoryMark, Order, PullCause, Refusal, Told, What};
 
 /// A piece of a line.
 #[derive(Clone, Copy)]
@@ -60,6 +60,26 @@ pub fn write_entry(out: &mut Vec<u8>, tags: &Tags, entry: &Entry) -> Result<(), 
         Entry::Bad(line) => write_bad(out, *line),
         Entry::Failed(order) => write_failed(out, order),
     }
+}
+
+/// Adds the line of a disk that isn't opened. Want of memory leaves `out` as it is.
+pub fn write_refusal(out: &mut Vec<u8>, refusal: &Refusal) -> Result<(), Memory>
+    ensures ok { OnOk result (out.new.items ≡ out.old.items ++ refusal_line refusal.now) }
+    ensures err { OnErr result (out.new.items ≡ out.old.items) }
+{
+    let (what, place) = what_pieces(&refusal.what);
+    write_pieces(
+        out,
+        &[
+            Piece::Text(b"refused "),
+            Piece::Number(u64::from(refusal.node)),
+            Piece::Text(b" "),
+            Piece::Number(u64::from(refusal.partition)),
+            Piece::Text(what),
+            place,
+            Piece::Text(b"\n"),
+        ],
+    )
 }
 
 fn write_begun(out: &mut Vec<u8>, tag: &[u8]) -> Result<(), Memory>

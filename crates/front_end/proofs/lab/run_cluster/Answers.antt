@@ -1,7 +1,11 @@
-use Rattle.std.proofs.Common.{◌∙◌, ap, refl, Err, []}
-use Rattle.mem_fabric.specs.Network.{nothing_held}
-use Rattle.mem_fabric.specs.PlayedLaws.{plays_on}
-use Rattle.front_end.proofs.ClusterLemmas.{opened_tie, ran_finished, ran_stopped, ran_cut, ran_starved}
+use Rattle.std.proofs.Common.{◌≡◌, ◌∙◌, ap, refl, Err, inl, inr}
+use Rattle.mem_fabric.specs.GoingLaws.{bays_on}
+use Rattle.mem_fabric.specs.Past.{calls_of}
+use Rattle.mem_fabric.specs.PlayedLaws.{falls_as_plays, falls_on, plays_on}
+use Rattle.mem_fabric.specs.Sound.{network_of}
+use Rattle.front_end.specs.Disks.{disks_of}
+use Rattle.front_end.proofs.ClusterLemmas.{opened_tie, ran_finished, ran_stopped, ran_cut, ran_starved, turned_away}
+use Rattle.front_end.proofs.DiskLemmas.{all_home, leaves_of, runs_on}
 use Rattle.front_end.proofs.lab.run_cluster.Goals as goal
 use Rattle.front_end.proofs.lab.run_cluster.Goals.{in-Ok-run_script, in-Err-Source, in-Err-Sink, in-Err-Memory-run_script}
 
@@ -9,40 +13,100 @@ pub run_script-requires-clause-quiet : goal.run_script-requires-clause-quiet
 run_script-requires-clause-quiet g c = λ router stands. opened_tie router _ _ c.requires.told c.in-Ok.ensures.told stands
 
 pub returns-clause-run : goal.returns-clause-run
-returns-clause-run g c = elim c.match-run_script.branch [
-  | in-Ok-run_script w ↦
-      let on = w.in-Ok-run_script.ensures.finished in
-      let played = c.what_is_told_was_played.ensures c.args.fabric.now c.open.new.self c.close.new.self c.args.shape.now _ c.requires.fresh c.in-Ok.ensures.goes c.in-Ok.ensures.opened
-      (plays_on _ _ _ _ _ _ on.went.0 c.close.ensures.goes.0, g.met.N.Moves.same_on _ _ _ on.went.1 c.close.ensures.goes.1, c.close.ensures.goes.2 ∙ on.went.2) c.close.ensures.told in
-      ran_finished _ on.router _ _ _ _ _ _ c.runs_are_safe.ensures on.shaped
-      (played.0, played.1, played.2)
-      (on.run c.args.shape.now [] nothing_held (c.in-Ok.ensures.run nothing_held (c.requires.empty c.args.shape.now []))).run w.status-is on.so
-  | in-Err-Source w ↦
-      let on = w.in-Err-Source.ensures.stopped (ap Err w.in-Err-Source.field-0-is) in
-      let played = c.what_is_told_was_played.ensures c.args.fabric.now c.open.new.self c.close.new.self c.args.shape.now _ c.requires.fresh c.in-Ok.ensures.goes c.in-Ok.ensures.opened
-      (plays_on _ _ _ _ _ _ on.went.0 c.close.ensures.goes.0, g.met.N.Moves.same_on _ _ _ on.went.1 c.close.ensures.goes.1, c.close.ensures.goes.2 ∙ on.went.2) c.close.ensures.told in
-      ran_stopped _ on.router _ _ _ _ _ c.runs_are_safe.ensures on.shaped
-      (played.0, played.1, played.2)
-      (on.run c.args.shape.now [] nothing_held (c.in-Ok.ensures.run nothing_held (c.requires.empty c.args.shape.now []))).run w.status-is on.so
-  | in-Err-Sink w ↦
-      let on = w.in-Err-Sink.ensures.cut (ap Err w.in-Err-Sink.field-0-is) in
-      let played = c.what_is_told_was_played.ensures c.args.fabric.now c.open.new.self c.close.new.self c.args.shape.now _ c.requires.fresh c.in-Ok.ensures.goes c.in-Ok.ensures.opened
-      (plays_on _ _ _ _ _ _ on.went.0 c.close.ensures.goes.0, g.met.N.Moves.same_on _ _ _ on.went.1 c.close.ensures.goes.1, c.close.ensures.goes.2 ∙ on.went.2) c.close.ensures.told in
-      ran_cut _ on.router _ _ _ _ _ c.runs_are_safe.ensures on.shaped
-      (played.0, played.1, played.2)
-      (on.run c.args.shape.now [] nothing_held (c.in-Ok.ensures.run nothing_held (c.requires.empty c.args.shape.now []))).run w.status-is on.so
-  | in-Err-Memory-run_script w ↦
-      let starved = w.in-Err-Memory-run_script.ensures.refused (ap Err w.in-Err-Memory-run_script.field-0-is) in
-      let on = starved.1.was in
-      let fell = starved.1.fell in
-      let played = c.what_is_told_was_played.ensures c.args.fabric.now c.open.new.self starved.1.between c.args.shape.now _ c.requires.fresh c.in-Ok.ensures.goes c.in-Ok.ensures.opened on.went refl in
-      ran_starved _ on.router _ _ _ _ _ _ _ starved.0 _ _ c.runs_are_safe.ensures on.shaped
-      (played.0, played.1, played.2)
-      (on.run c.args.shape.now [] nothing_held (c.in-Ok.ensures.run nothing_held (c.requires.empty c.args.shape.now []))).run fell.0.1.moves c.close.ensures.goes.0.2.moves w.status-is on.so
-]
+returns-clause-run g c =
+    let D = g.A.Disk.Disk in
+    let B = g.A.Bays in
+    let old = c.args.fabric.now in
+    let opened = c.open.new.self in
+    let left = c.run_script.new.fabric in
+    let end = c.close.new.self in
+    let shape = c.args.shape.now in
+    let folder = c.args.folder.now in
+    let disks = disks_of B.tells D.tells D.content D.size D.faults B.home shape folder old.nodes.bays end.nodes.bays in
+    elim c.match-run_script.branch [
+      | in-Ok-run_script w ↦
+          let on = w.in-Ok-run_script.ensures.finished in
+          let p = c.what_is_told_was_played.ensures old opened end shape (calls_of left.cluster.past) c.requires.fresh c.in-Ok.ensures.goes c.in-Ok.ensures.opened (
+            plays_on _ _ _ _ _ _ on.went.0 c.close.ensures.goes.0,
+            g.met.N.Moves.same_on _ _ _ on.went.1 c.close.ensures.goes.1,
+            c.close.ensures.goes.2 ∙ on.went.2,
+            bays_on B.tells B.out B.same opened.nodes left.nodes end.nodes (g.met.A.Bays.same_on _ _ _) on.went.3 c.close.ensures.goes.3,
+          ) c.close.ensures.told in
+          ran_finished shape disks on.router _ _ (calls_of left.cluster.past) _ _ _ c.runs_are_safe.ensures on.shaped (p.0, p.1, p.2)
+          (runs_on B.tells D.tells D.content D.size D.faults B.home shape folder old.nodes.bays left.nodes (calls_of left.cluster.past) (λ opening held. on.run shape folder opening (c.in-Ok.ensures.run opening (c.requires.holds opening held))))
+          (leaves_of B.tells D.tells D.content D.size D.faults B.home shape folder old.nodes.bays end.nodes (calls_of left.cluster.past) (calls_of end.cluster.past) c.close.ensures.told
+          (λ opening held. c.close.ensures.run shape folder opening (on.run shape folder opening (c.in-Ok.ensures.run opening (c.requires.holds opening held)))) c.close.ensures.home c.close.ensures.torn)
+          w.status-is on.so
+      | in-Err-Source w ↦
+          let on = w.in-Err-Source.ensures.stopped (ap Err w.in-Err-Source.field-0-is) in
+          let p = c.what_is_told_was_played.ensures old opened end shape (calls_of left.cluster.past) c.requires.fresh c.in-Ok.ensures.goes c.in-Ok.ensures.opened (
+            plays_on _ _ _ _ _ _ on.went.0 c.close.ensures.goes.0,
+            g.met.N.Moves.same_on _ _ _ on.went.1 c.close.ensures.goes.1,
+            c.close.ensures.goes.2 ∙ on.went.2,
+            bays_on B.tells B.out B.same opened.nodes left.nodes end.nodes (g.met.A.Bays.same_on _ _ _) on.went.3 c.close.ensures.goes.3,
+          ) c.close.ensures.told in
+          ran_stopped shape disks on.router _ _ (calls_of left.cluster.past) _ _ c.runs_are_safe.ensures on.shaped (p.0, p.1, p.2)
+          (runs_on B.tells D.tells D.content D.size D.faults B.home shape folder old.nodes.bays left.nodes (calls_of left.cluster.past) (λ opening held. on.run shape folder opening (c.in-Ok.ensures.run opening (c.requires.holds opening held))))
+          (leaves_of B.tells D.tells D.content D.size D.faults B.home shape folder old.nodes.bays end.nodes (calls_of left.cluster.past) (calls_of end.cluster.past) c.close.ensures.told
+          (λ opening held. c.close.ensures.run shape folder opening (on.run shape folder opening (c.in-Ok.ensures.run opening (c.requires.holds opening held)))) c.close.ensures.home c.close.ensures.torn)
+          w.status-is on.so
+      | in-Err-Sink w ↦
+          let on = w.in-Err-Sink.ensures.cut (ap Err w.in-Err-Sink.field-0-is) in
+          let p = c.what_is_told_was_played.ensures old opened end shape (calls_of left.cluster.past) c.requires.fresh c.in-Ok.ensures.goes c.in-Ok.ensures.opened (
+            plays_on _ _ _ _ _ _ on.went.0 c.close.ensures.goes.0,
+            g.met.N.Moves.same_on _ _ _ on.went.1 c.close.ensures.goes.1,
+            c.close.ensures.goes.2 ∙ on.went.2,
+            bays_on B.tells B.out B.same opened.nodes left.nodes end.nodes (g.met.A.Bays.same_on _ _ _) on.went.3 c.close.ensures.goes.3,
+          ) c.close.ensures.told in
+          ran_cut shape disks on.router _ _ (calls_of left.cluster.past) _ _ c.runs_are_safe.ensures on.shaped (p.0, p.1, p.2)
+          (runs_on B.tells D.tells D.content D.size D.faults B.home shape folder old.nodes.bays left.nodes (calls_of left.cluster.past) (λ opening held. on.run shape folder opening (c.in-Ok.ensures.run opening (c.requires.holds opening held))))
+          (leaves_of B.tells D.tells D.content D.size D.faults B.home shape folder old.nodes.bays end.nodes (calls_of left.cluster.past) (calls_of end.cluster.past) c.close.ensures.told
+          (λ opening held. c.close.ensures.run shape folder opening (on.run shape folder opening (c.in-Ok.ensures.run opening (c.requires.holds opening held)))) c.close.ensures.home c.close.ensures.torn)
+          w.status-is on.so
+      | in-Err-Memory-run_script w ↦
+          let starved = w.in-Err-Memory-run_script.ensures.refused (ap Err w.in-Err-Memory-run_script.field-0-is) in
+          let between = starved.1.between in
+          let on = starved.1.was in
+          let p = c.what_is_told_was_played.ensures old opened between shape (calls_of between.cluster.past) c.requires.fresh c.in-Ok.ensures.goes c.in-Ok.ensures.opened on.went refl in
+          ran_starved shape disks on.router _ _ _ (network_of old.cluster) (network_of between.cluster) (network_of end.cluster) starved.0 _ _ c.runs_are_safe.ensures on.shaped (p.0, p.1, p.2)
+          (runs_on B.tells D.tells D.content D.size D.faults B.home shape folder old.nodes.bays between.nodes (calls_of between.cluster.past) (λ opening held. on.run shape folder opening (c.in-Ok.ensures.run opening (c.requires.holds opening held))))
+          (ap network_of (old.empty c.requires.fresh))
+          (falls_as_plays _ _ _ _ (plays_on _ _ _ _ _ _ c.in-Ok.ensures.goes.0 on.went.0))
+          (falls_on _ _ _ _ _ _ starved.1.fell.0 (falls_as_plays _ _ _ _ c.close.ensures.goes.0))
+          (leaves_of B.tells D.tells D.content D.size D.faults B.home shape folder old.nodes.bays end.nodes (calls_of end.cluster.past) (calls_of end.cluster.past) refl
+          (λ opening held. c.close.ensures.run shape folder opening (starved.1.run shape folder opening (on.run shape folder opening (c.in-Ok.ensures.run opening (c.requires.holds opening held))))) c.close.ensures.home c.close.ensures.torn)
+          w.status-is on.so
+    ]
+
+pub returns-clause-home : goal.returns-clause-home
+returns-clause-home g c = λ t.
+    all_home g.A.Bays.out c.args.fabric.now.nodes c.close.new.self.nodes c.requires.nodes c.close.ensures.home
+    (λ before own. c.close.ensures.goes.3.own t before (c.run_script.ensures.falls.3.own t before (c.open.ensures.falls.3.own t before own)))
+
+pub returns-clause-same_bays : goal.returns-clause-same_bays
+returns-clause-same_bays g c = g.met.A.Bays.same_on _ _ _ (g.met.A.Bays.same_on _ _ _ c.open.ensures.falls.3.same_bays c.run_script.ensures.falls.3.same_bays) c.close.ensures.goes.3.same_bays
 
 pub returns-in-Err-Failed-clause-run : goal.returns-in-Err-Failed-clause-run
-returns-in-Err-Failed-clause-run g c = absurd (c.in-Err-Failed.ensures.never (ap Err c.in-Err-Failed.field-0-is))
+returns-in-Err-Failed-clause-run g c =
+    inr (inr (inl (inl refl, record { untouched = record { source = refl; sink = refl; random = refl }; moves = ap g.N.Moves.given c.in-Err-Failed.ensures.unmoved; stay = c.in-Err-Failed.ensures.stays })))
 
-pub returns-in-Err-Failed-clause-never : goal.returns-in-Err-Failed-clause-never
-returns-in-Err-Failed-clause-never g c = absurd (c.in-Err-Failed.ensures.never (ap Err c.in-Err-Failed.field-0-is))
+pub returns-in-Err-Failed-clause-home : goal.returns-in-Err-Failed-clause-home
+returns-in-Err-Failed-clause-home g c = λ t.
+    all_home g.A.Bays.out c.args.fabric.now.nodes c.open.new.self.nodes c.requires.nodes c.in-Err-Failed.ensures.shut (λ before own. c.open.ensures.falls.3.own t before own)
+
+pub returns-in-Err-Memory-clause-run : goal.returns-in-Err-Memory-clause-run
+returns-in-Err-Memory-clause-run g c =
+    inr (inr (inl (inr refl, record { untouched = record { source = refl; sink = refl; random = refl }; moves = ap g.N.Moves.given c.in-Err-Memory.ensures.unmoved; stay = c.in-Err-Memory.ensures.stays })))
+
+pub returns-in-Err-Memory-clause-home : goal.returns-in-Err-Memory-clause-home
+returns-in-Err-Memory-clause-home g c = λ t.
+    all_home g.A.Bays.out c.args.fabric.now.nodes c.open.new.self.nodes c.requires.nodes c.in-Err-Memory.ensures.shut (λ before own. c.open.ensures.falls.3.own t before own)
+
+pub returns-in-Err-Refused-clause-run : goal.returns-in-Err-Refused-clause-run
+returns-in-Err-Refused-clause-run g c =
+    turned_away c.args.shape.now _ _ _ _ _ c.in-Err-Refused.refusal refl refl (ap g.N.Moves.given c.in-Err-Refused.ensures.unmoved) c.in-Err-Refused.ensures.stays
+    (λ t. c.in-Err-Refused.ensures.refused c.in-Err-Refused.refusal (ap Err c.in-Err-Refused.field-0-is) t) c.refuse_disks.ensures.told
+
+pub returns-in-Err-Refused-clause-home : goal.returns-in-Err-Refused-clause-home
+returns-in-Err-Refused-clause-home g c = λ t.
+    all_home g.A.Bays.out c.args.fabric.now.nodes c.open.new.self.nodes c.requires.nodes c.in-Err-Refused.ensures.shut (λ before own. c.open.ensures.falls.3.own t before own)

@@ -21,7 +21,7 @@ returns-in_err-line-clause-refused g c = λ q.
     let P = c.args.session.now.router.shape in
     let gone = c.next_line.ensures.gone in
     let tie = ties_of c.lines.session.router (g.F.Fabric.told c.lines.fabric) in
-    (g.U.Random.ahead c.lines.random, record { between = c.lines.fabric; was = record { router = c.lines.session.router; shaped = i.shape; went = i.goes; run = i.run; so = stopped_between P _ _ _ _ _ _ _ gone.0 _ c.lines.session tie _ _ _ refl refl refl refl refl i.running gone.1 gone.2 (appends_nothing _) }; fell = g.met.F.Fabric.falls_as_it_goes _ _ (g.met.F.Fabric.goes_nowhere _) })
+    (g.U.Random.ahead c.lines.random, record { between = c.lines.fabric; was = record { router = c.lines.session.router; shaped = i.shape; went = i.goes; run = i.run; so = stopped_between P _ _ _ _ _ _ _ gone.0 _ c.lines.session tie _ _ _ refl refl refl refl refl i.running gone.1 gone.2 (appends_nothing _) }; fell = g.met.F.Fabric.falls_as_it_goes _ _ (g.met.F.Fabric.goes_nowhere _); run = λ cluster place opening ran. ran })
 
 pub returns-in_err-more-in-Line-clause-cut : goal.returns-in_err-more-in-Line-clause-cut
 returns-in_err-more-in-Line-clause-cut g c = λ q.
@@ -52,7 +52,7 @@ returns-in_err-more-in-Line-clause-refused g c = λ q.
     let gone = c.next_line.ensures.gone in
     let tie = ties_of c.lines.session.router (g.F.Fabric.told c.lines.fabric) in
     let e = sym (known_error _ stop.Memory c.in_err-more-in-Line.field-0.0 c.from_residual-in_err-more-in-Line.ensures q) in
-    (g.U.Random.ahead c.lines.random, record { between = c.lines.fabric; was = record { router = c.lines.session.router; shaped = i.shape; went = i.goes; run = i.run; so = stopped_between P _ _ _ _ _ _ _ gone.0 _ c.lines.session tie _ _ _ refl refl refl refl refl i.running gone.1 gone.2 (c.in_err-more-in-Line.ensures.memory (ap Err e)) }; fell = c.in_err-more-in-Line.ensures.falls })
+    (g.U.Random.ahead c.lines.random, record { between = c.lines.fabric; was = record { router = c.lines.session.router; shaped = i.shape; went = i.goes; run = i.run; so = stopped_between P _ _ _ _ _ _ _ gone.0 _ c.lines.session tie _ _ _ refl refl refl refl refl i.running gone.1 gone.2 (c.in_err-more-in-Line.ensures.memory (ap Err e)) }; fell = c.in_err-more-in-Line.ensures.falls; run = c.in_err-more-in-Line.ensures.run })
 
 pub returns-in_err-run_line-in-Last-clause-cut : goal.returns-in_err-run_line-in-Last-clause-cut
 returns-in_err-run_line-in-Last-clause-cut g c = λ q.
@@ -83,7 +83,7 @@ returns-in_err-run_line-in-Last-clause-refused g c = λ q.
     let gone = c.next_line.ensures.gone in
     let tie = ties_of c.lines.session.router (g.F.Fabric.told c.lines.fabric) in
     let e = sym (known_error _ stop.Memory c.in_err-run_line-in-Last.field-0.0 c.from_residual-in_err-run_line-in-Last.ensures q) in
-    (g.U.Random.ahead c.lines.random, record { between = c.lines.fabric; was = record { router = c.lines.session.router; shaped = i.shape; went = i.goes; run = i.run; so = stopped_between P _ _ _ _ _ _ _ gone.0 _ c.lines.session tie _ _ _ refl refl refl refl refl i.running gone.1 gone.2 (c.in_err-run_line-in-Last.ensures.memory (ap Err e)) }; fell = c.in_err-run_line-in-Last.ensures.falls })
+    (g.U.Random.ahead c.lines.random, record { between = c.lines.fabric; was = record { router = c.lines.session.router; shaped = i.shape; went = i.goes; run = i.run; so = stopped_between P _ _ _ _ _ _ _ gone.0 _ c.lines.session tie _ _ _ refl refl refl refl refl i.running gone.1 gone.2 (c.in_err-run_line-in-Last.ensures.memory (ap Err e)) }; fell = c.in_err-run_line-in-Last.ensures.falls; run = c.in_err-run_line-in-Last.ensures.run })
 
 pub returns-in_err-more-in-Line-clause-falls : goal.returns-in_err-more-in-Line-clause-falls
 returns-in_err-more-in-Line-clause-falls g c = g.met.F.Fabric.falls_on _ _ _ (g.met.F.Fabric.falls_as_it_goes _ _ c.lines.invariant.goes) c.in_err-more-in-Line.ensures.falls

@@ -63,6 +63,7 @@ returns-in_err-finish-clause-refused g c = λ q.
           so = stopped_over _ _ tie _ _ parts stopped;
         };
         fell = c.in_err-finish.ensures.falls;
+        run = c.in_err-finish.ensures.run;
       },
     )
 

@@ -1,0 +1,31 @@
+-- Acts on a network add to the calls that it told.
+use Rattle.std.proofs.Common.{◌≡◌, ◌∙◌, ◌++◌, ◌∷◌, ℕ, Bool, true, false, cond, List, [], None, Some, refl, sym, ap, append_assoc}
+use Rattle.mem_fabric.specs.Network.{Network, moved, after_order, after_sent, after_steps, is_stopped}
+use Rattle.mem_fabric.specs.Past.{order_steps}
+use Rattle.mem_fabric.specs.Played.{Act, Opens, Sends, Orders, Gives, Moves, Fails, acted, all_acted}
+use Rattle.mem_fabric.proofs.Playing.{calls_on}
+use Rattle.world_model.specs.declared.step.Called.{Called}
+use Rattle.world_model.specs.declared.step.Step.TheVariants as steps
+
+-- the calls of a network stand behind these ones
+abbrev pub AddsCalls : (old new : List Called) → Type 0
+AddsCalls old new = (since : List Called) × (new ≡ since ++ old)
+
+send_adds : (n : Network) (node : ℕ) (frame : List ℕ) (stopped : Bool) → AddsCalls n.calls (cond stopped (after_steps n (steps.Refused node frame ∷ [])) (after_sent n node frame)).calls
+send_adds n node frame true = (record { steps = steps.Refused node frame ∷ []; given = None } ∷ [], refl)
+send_adds n node frame false = (record { steps = steps.Send 0 node frame ∷ []; given = None } ∷ [], refl)
+
+act_adds : (n : Network) (act : Act) → AddsCalls n.calls (acted n act).calls
+act_adds n (Opens shape) = (record { steps = []; given = None } ∷ [], refl)
+act_adds n (Sends node frame) = send_adds n node frame (is_stopped n node)
+act_adds n (Orders order answer) = (record { steps = order_steps order answer; given = None } ∷ [], calls_on n order answer)
+act_adds n (Gives event) = (record { steps = []; given = Some event } ∷ [], refl)
+act_adds n (Moves chosen reply opened) = (record { steps = (moved n reply opened chosen).steps; given = Some (moved n reply opened chosen).event } ∷ [], refl)
+act_adds n (Fails chosen) = ([], refl)
+
+pub acted_later : (n : Network) (acts : List Act) → AddsCalls n.calls (all_acted n acts).calls
+acted_later n [] = ([], refl)
+acted_later n (act ∷ before) =
+    let first = acted_later n before in
+    let next = act_adds (all_acted n before) act in
+    (next.0 ++ first.0, next.1 ∙ ap (λ (l : List Called). next.0 ++ l) first.1 ∙ sym (append_assoc next.0 first.0 n.calls))
