@@ -47,7 +47,7 @@ for n in $(seq 1 20); do
 done > "$work/script"
 for seed in $(seq 1 100); do
   cp "$work/script" "$work/seeds/seed_$seed"
-  printf 'run\n--seed\n%d\n' "$seed" > "$work/seeds/seed_$seed.args"
+  printf 'run\n--segment\n66736\n--segments\n3\n--seed\n%d\n' "$seed" > "$work/seeds/seed_$seed.args"
 done
 run_all "$work/seeds" > "$work/once" 2> "$work/log"
 run_all "$work/seeds" > "$work/again" 2> /dev/null

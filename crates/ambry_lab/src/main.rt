@@ -1,8 +1,10 @@
-//! Runs a script over nodes in one process: the script comes from standard input, the transcript goes to standard
-//! output, and the exit status tells how it ended.
+//! Runs a script over nodes in one process, whose disks are files: the script comes from standard input, the transcript
+//! goes to standard output, and the exit status tells how it ended. The files lie in the folder that the words name, below
+//! the current one, and stay for later sessions, which take other `--ids`.
 #![tactic(auto)]
 
 use blob_id::{Memory, Words};
+use disk_core::FileBays;
 use front_end::run_lab;
 use outside::{CountRandom, StdSink, StdSource};
 use std::process::ExitCode;
@@ -13,6 +15,7 @@ fn main(rt: HostRuntime) -> ExitCode {
     let words = read_words(&rt);
     let mut input = StdSource::new(rt.reader());
     let mut output = StdSink::new(io::writer(&rt));
+    let mut bays = FileBays::new(rt.alloc(), rt);
     let mut moves = SeedMoves::new(rt.alloc());
     let mut random = CountRandom::new(0, 0);
     let status = match words {
@@ -21,6 +24,7 @@ fn main(rt: HostRuntime) -> ExitCode {
             &words,
             &mut input,
             &mut output,
+            &mut bays,
             &mut moves,
             &mut random,
         ),
