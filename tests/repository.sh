@@ -6,14 +6,16 @@
 set -u
 cd "$(dirname "$0")/.." || exit 1
 work=$(mktemp -d) || exit 1
-trap 'rm -rf "$work"' EXIT
+# The runs have their disks in memory where the machine has a folder for that, since each put waits until its disks are synced.
+memory=$(mktemp -d -p /dev/shm 2> /dev/null || mktemp -d) || exit 1
+trap 'rm -rf "$work" "$memory"' EXIT
 mkdir "$work/examples" "$work/seeds"
 failed=0
 
 # Runs the program over each script of a folder. A line for each run comes on standard error, and the transcripts that have none beside them on
 # standard output.
 run_all() {
-  (cd crates/ambry_lab && rt try --cases "$1")
+  (cd crates/ambry_lab && TMPDIR="$memory" rt try --cases "$1")
 }
 
 # What `cat` finds in a file, or else these words.
