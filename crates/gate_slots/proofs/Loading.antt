@@ -44,7 +44,7 @@ module _ (base : ℕ) (bytes : List ℕ) (old new : Content) (settled : IsSettle
   from_settled : (d c : List ℕ) → old.images d → ReplacesCell base bytes d c → IsOldOrNew base bytes old (cell_at base c).value
   from_settled d c image by =
       let was : (cell_at base d).value ≡ (cell_at base old.seen).value = ap (λ (x : Cell). x.value) (cell_same base d old.seen (settled d image)) in
-      ⊎_elim (λ same. inl (same ∙ was)) (λ put. inr put) by.value
+      ⊎_elim (λ same. inl (same ∙ was)) (λ put. inr put.0) by.value
 
   pub stays_old_or_new : ChangesBy (ReplacesCell base bytes) old new → StaysOldOrNew base bytes old new
   stays_old_or_new during c left = let from = during.each c left in from_settled from.0 c from.1 from.2

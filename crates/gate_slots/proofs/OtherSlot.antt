@@ -94,7 +94,7 @@ replaces base second sequence bytes d c fits below place last writes = record {
   value = ⊎_elim
       (λ (is : get_or c (target_place base second) 0 ≡ 79). ⊎_elim
       (λ same. inl (ap (λ (x : Cell). x.value) (same_cell base second sequence bytes fits below d c place last writes.torn same)))
-      (λ holds. inr (ap (λ (x : Cell). x.value) (new_cell base second sequence bytes fits below d c place last writes.torn is holds)))
+      (λ holds. let becomes = new_cell base second sequence bytes fits below d c place last writes.torn is holds in inr (ap (λ (x : Cell). x.value) becomes, ap (λ (x : Cell). x.sequence) becomes ∙ ap (λ (n : ℕ). n + 1) (sym last)))
       (writes.opened is))
       (λ shut. inl (ap (λ (x : Cell). x.value) (shut_cell base second sequence bytes fits below d c place last writes.torn shut)))
       (cases_eq (get_or c (target_place base second) 0) 79);

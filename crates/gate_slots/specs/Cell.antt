@@ -40,10 +40,10 @@ cell first second =
 abbrev pub cell_at : ℕ → List ℕ → Cell
 cell_at base c = cell (range base 1024 c) (range (base + 1024) 1024 c)
 
--- Changed in the cell alone, which holds what it held or these bytes.
+-- Changed in the cell alone, which holds what it held, or these bytes under the next sequence.
 pub record ReplacesCell (base : ℕ) (bytes : List ℕ) (old new : List ℕ) : Type 0 where
   pub torn : Torn base 2048 old new
-  pub value : ((cell_at base new).value ≡ (cell_at base old).value) ⊎ ((cell_at base new).value ≡ Some bytes)
+  pub value : ((cell_at base new).value ≡ (cell_at base old).value) ⊎ (((cell_at base new).value ≡ Some bytes) × ((cell_at base new).sequence ≡ (cell_at base old).sequence + 1))
 
 -- From a settled cell on, nothing was done but that these bytes were put into it, or part of that.
 pub record IsReplacing (base : ℕ) (bytes : List ℕ) (old new : Content) : Type 0 where
