@@ -1,18 +1,21 @@
 -- A new disk is given its first manifest.
-use Rattle.std.proofs.Common.{◌≡◌, inl, inr, ⊎_elim, ℕ, ◌+◌, ◌<◌, ◌^◌, List, [], ◌∷◌, get_or, Option, Some, None, refl, sym, ◌∙◌, ap, subst, arith, lit≤}
+use Rattle.std.proofs.Common.{◌≡◌, inl, inr, ⊎_elim, ℕ, ◌+◌, ◌<◌, ◌^◌, List, [], ◌∷◌, get_or, Option, Some, None, false, refl, sym, ◌∙◌, ap, subst, arith, lit≤}
 use Rattle.disk_core.specs.Content.{Content, ChangesBy, Only, Holds, Torn, range}
 use Rattle.disk_core.proofs.Ranges.{range-torn}
 use Rattle.disk_core.proofs.Changes.{widen, chain, image_from}
 use Rattle.gate_slots.specs.Cell.{cell_at, ReplacesCell}
 use Rattle.gate_slots.specs.Slots.{CurrentSlot, IsLoaded}
+use Rattle.gate_slots.proofs.Cells.{none_sequence}
 use Rattle.gate_slots.proofs.Gates.{byte_at}
 use Rattle.log_manifest.specs.declared.manifest.LogSettings.{LogSettings}
 use Rattle.log_manifest.specs.Manifests.{IsManifest, IsLive, manifest_text}
 use Rattle.msg_format.specs.declared.record.Record.{Record}
 use Rattle.part_log.specs.Segments.{place_of}
-use Rattle.part_log.specs.Images.{HasLog, StandsFor, OpensLog}
-use Rattle.part_log.specs.Log.{AreInRange, IsLog, IsShown, IsTable, first_table, manifest_of}
+use Rattle.part_log.specs.Images.{HasLayout, HasLog, IsLaidOut, StandsFor, OpensLog}
+use Rattle.part_log.specs.Layout.{Layout, first_layout}
+use Rattle.part_log.specs.Log.{AreInRange, IsLog, IsShown, IsTable, first_table, layout_of, manifest_of}
 use Rattle.part_log.proofs.Fronts.{shown_stands, value_same}
+use Rattle.part_log.proofs.Layouts.{shown_layout}
 use Rattle.part_log.proofs.Segments.{write_first, write_cell, writes_twice}
 
 none_or_some : (v : Option (List ℕ)) (bytes : List ℕ) → v ≡ None → v ≡ Some bytes → ⊥
@@ -23,10 +26,20 @@ still_new : (settings : LogSettings) (d c : List ℕ) (records : List Record) (e
 still_new settings d c records end none still (inl log) = absurd (none_or_some (cell_at 0 d).value (manifest_text log.manifest) none log.has.value)
 still_new settings d c records end none still (inr new) = inr (record { none = still; empty = new.empty; first = new.first })
 
+-- and so does its layout
+still_laid : (settings : LogSettings) (d c : List ℕ) (layout : Layout) → (cell_at 0 d).value ≡ None → (cell_at 0 c).value ≡ None → IsLaidOut settings d layout → IsLaidOut settings c layout
+still_laid settings d c layout none still (inl was) = absurd (none_or_some (cell_at 0 d).value (manifest_text was.log.manifest) none was.log.has.value)
+still_laid settings d c layout none still (inr new) = inr (still, new.1)
+
 -- and a disk that was new stands for the empty log
 named_new : (settings : LogSettings) (records : List Record) (end : ℕ) (d c : List ℕ) → (cell_at 0 d).value ≡ None → HasLog settings c [] 0 → StandsFor settings d records end → StandsFor settings c records end
 named_new settings records end d c none log (inl was) = absurd (none_or_some (cell_at 0 d).value (manifest_text was.manifest) none was.has.value)
 named_new settings records end d c none log (inr new) = inl (subst (λ (n : ℕ). HasLog settings c records n) (sym new.first) (subst (λ (l : List Record). HasLog settings c l 0) (sym new.empty) log))
+
+-- and has the first layout
+named_laid : (settings : LogSettings) (d c : List ℕ) (layout : Layout) → (cell_at 0 d).value ≡ None → HasLayout settings c first_layout → IsLaidOut settings d layout → IsLaidOut settings c layout
+named_laid settings d c layout none laid (inl was) = absurd (none_or_some (cell_at 0 d).value (manifest_text was.log.manifest) none was.log.has.value)
+named_laid settings d c layout none laid (inr new) = inl (subst (λ (l : Layout). HasLayout settings c l) (sym new.1) laid)
 
 pub first_manifest : (settings : LogSettings) (slots : CurrentSlot) → AreInRange settings → IsManifest (manifest_of (first_table settings slots) 0)
 first_manifest settings slots ranges = record {
@@ -51,6 +64,13 @@ first_good settings slots ranges base below = record {
   sequence = below;
 }
 
+pub first_layout_is : (settings : LogSettings) (slots : CurrentSlot) → slots.sequence ≡ 1 → layout_of (first_table settings slots) ≡ first_layout
+first_layout_is settings slots first = ap (λ (n : ℕ). record { in_use = 1; used = 0; end = 0; next_generation = 1; sequence = n }) first
+
+-- what holds of each image holds of the bytes that are seen
+pub opens_seen : (settings : LogSettings) (old new : Content) → Only old → ChangesBy (OpensLog settings) old new → OpensLog settings old.seen new.seen
+opens_seen settings old new only opens = let from = image_from (OpensLog settings) old new opens new.seen new.sees in subst (λ (l : List ℕ). OpensLog settings l new.seen) (only from.0 from.1) from.2
+
 module _ (settings : LogSettings) (ranges : AreInRange settings) (place : ℕ) (is : place ≡ 4096) (old mid : Content) (only : Only old) (none : (cell_at 0 old.seen).value ≡ None) (write : ChangesBy (Torn place 1) old mid) where
   at_first : place ≡ place_of settings.segment 0
   at_first = omega (arith, is)
@@ -62,6 +82,7 @@ module _ (settings : LogSettings) (ranges : AreInRange settings) (place : ℕ) (
   opens_blank = widen (Torn place 1) (OpensLog settings) old mid write (λ d c image torn. record {
     changes = write_first settings.segment 0 place d c (omega (arith, ranges.least)) at_first torn;
     stands = λ records end stands. still_new settings d c records end (ap (λ (l : List ℕ). (cell_at 0 l).value) (only d image) ∙ none) (still_none d c image torn) stands;
+    layout = λ layout laid. still_laid settings d c layout (ap (λ (l : List ℕ). (cell_at 0 l).value) (only d image) ∙ none) (still_none d c image torn) laid;
   })
 
   module _ (new : Content) (slots : CurrentSlot) (text : List ℕ) (text_is : text ≡ manifest_text (manifest_of (first_table settings slots) 0)) (base : slots.base ≡ 0) (below : slots.sequence < 2 ^ 63)
@@ -82,6 +103,13 @@ module _ (settings : LogSettings) (ranges : AreInRange settings) (place : ℕ) (
     first_stands : (e c : List ℕ) → mid.images e → ReplacesCell 0 text e c → (cell_at 0 c).value ≡ Some text → HasLog settings c [] 0
     first_stands e c image by value = shown_stands (first_table settings slots) 0 ([] ∷ []) c (first_good settings slots ranges base below) (refl, tt, tt) tt refl (first_shown e c image by value)
 
+    -- the first table with the sequence that the cell has then
+    first_laid : (e c : List ℕ) → mid.images e → ReplacesCell 0 text e c → (cell_at 0 c).value ≡ Some text → (cell_at 0 c).sequence ≡ (cell_at 0 e).sequence + 1 → (cell_at 0 e).value ≡ None → HasLayout settings c first_layout
+    first_laid e c image by value sequence none =
+        let named : CurrentSlot = record { base = 0; sequence = 1; second = false } in
+        let shown = first_shown e c image by value in
+        shown_layout (first_table settings named) 0 ([] ∷ []) c (first_good settings named ranges refl (lit≤ tt)) (refl, tt, tt) tt refl (record { value = shown.value; fronts = shown.fronts }) (sym (sequence ∙ ap (λ (n : ℕ). n + 1) (none_sequence 0 e none)))
+
     none_mid : (e : List ℕ) → mid.images e → (cell_at 0 e).value ≡ None
     none_mid e image = let from = image_from (Torn place 1) old mid write e image in still_none from.0 e from.1 from.2
 
@@ -97,7 +125,11 @@ module _ (settings : LogSettings) (ranges : AreInRange settings) (place : ℕ) (
             changes = writes_twice settings.segment 0 from.0 e c (write_first settings.segment 0 place from.0 e (omega (arith, ranges.least)) at_first from.2) (write_cell settings.segment 0 e c by.torn);
             stands = λ records end stands. ⊎_elim
                 (λ same. still_new settings from.0 c records end none_old (same ∙ none_mid e image) stands)
-                (λ named. named_new settings records end from.0 c none_old (first_stands e c image by named) stands)
+                (λ named. named_new settings records end from.0 c none_old (first_stands e c image by named.0) stands)
+                by.value;
+            layout = λ layout laid. ⊎_elim
+                (λ same. still_laid settings from.0 c layout none_old (same ∙ none_mid e image) laid)
+                (λ named. named_laid settings from.0 c layout none_old (first_laid e c image by named.0 named.1 (none_mid e image)) laid)
                 by.value;
           },
         ))

@@ -20,3 +20,4 @@ pub mod Blanks
 pub mod Wholes
 pub mod Staying
 pub mod Meaning
+pub mod Layouts

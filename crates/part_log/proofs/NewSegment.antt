@@ -199,7 +199,7 @@ module _ (table : LogTable) (target : ℕ) (slots : CurrentSlot) (text : List �
             (λ same. subst (λ (l : List Record). HasLog table.settings c l table.end) (sym records_are)
             (shown_stands table log.floor log.parts c good log.sized log.rises log.ends (still_named log.floor log.parts e c by same (blank_log.shown e image))))
             (λ named. subst (λ (l : List Record). HasLog table.settings c l table.end) (no_more log.parts ∙ sym records_are)
-            (shown_stands (rolled_table table target slots) table.end (log.parts ++ [] ∷ []) c rolled_good rolled_sized rolled_rises rolled_ends (named_too log.floor log.parts e c (shut e image) by named (blank_log.shown e image))))
+            (shown_stands (rolled_table table target slots) table.end (log.parts ++ [] ∷ []) c rolled_good rolled_sized rolled_rises rolled_ends (named_too log.floor log.parts e c (shut e image) by named.0 (blank_log.shown e image))))
             by.value
 
         pub keeps_roll : ChangesBy (KeepsLog table.settings target (records_of placed) table.end) old new

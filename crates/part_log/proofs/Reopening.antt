@@ -13,12 +13,13 @@ use Rattle.part_log.specs.declared.segment.Found.{Found}
 use Rattle.part_log.specs.declared.segment.SegmentInfo.{SegmentInfo}
 use Rattle.part_log.specs.Records.{next_after, records_of}
 use Rattle.part_log.specs.Segments.{place_of, lives_of, with_firsts}
-use Rattle.part_log.specs.Images.{joined, HasLog, HasBadRecord, EndBadly, OpensLog, manifest_gate}
-use Rattle.part_log.specs.Log.{LogTable, AreInRange, AllFit, IsLog, IsShown, IsTable, manifest_of, placed_in, disk_size}
+use Rattle.part_log.specs.Images.{joined, HasLog, HasBadRecord, EndBadly, IsLaidOut, OpensLog, manifest_gate}
+use Rattle.part_log.specs.Log.{LogTable, AreInRange, AllFit, IsLog, IsShown, IsTable, layout_of, manifest_of, placed_in, disk_size}
 use Rattle.part_log.specs.Scan.{AreRead}
 use Rattle.part_log.proofs.Manifests.{higher_floor}
 use Rattle.part_log.proofs.Segments.{no_write}
 use Rattle.part_log.proofs.Fronts.{shown_stands, records_of-placed_in}
+use Rattle.part_log.proofs.Layouts.{log_layout}
 use Rattle.part_log.proofs.Lives.{lives_filled, sized_filled, fit_filled, fronts_filled, placed_filled, firsts_filled}
 
 module _ (manifest : Manifest) (good : IsManifest manifest) (ranges : AreInRange manifest.settings) (infos : List SegmentInfo) (lives : lives_of infos ≡ manifest.live) (fit : AllFit manifest.settings.segment infos)
@@ -65,6 +66,10 @@ module _ (manifest : Manifest) (good : IsManifest manifest) (ranges : AreInRange
       settled = λ c image. ap (range 0 2048) (only c image);
     }
 
+    pub read_laid : IsLoaded slots content.seen → Only content → IsLaidOut manifest.settings content.seen (layout_of (record { settings = manifest.settings; segments = with_firsts infos end; next_generation = manifest.next_generation; end = end; slots = slots }))
+    read_laid loaded only =
+        log_layout (record { settings = manifest.settings; segments = with_firsts infos end; next_generation = manifest.next_generation; end = end; slots = slots }) content (placed_in manifest.settings.segment infos parts) table_good (read_log loaded only) content.seen content.sees
+
     pub read_stands : HasLog manifest.settings content.seen (records_of (placed_in manifest.settings.segment infos parts)) end
     read_stands = subst (λ (l : List Record). HasLog manifest.settings content.seen l end) (sym (records_of-placed_in manifest.settings.segment infos parts read.sized))
         (shown_stands (record { settings = manifest.settings; segments = with_firsts infos end; next_generation = manifest.next_generation; end = end; slots = slots }) manifest.floor parts content.seen table_good (sized_filled infos parts end read.sized) read.rises its_end shown)
@@ -77,12 +82,15 @@ lives_inside manifest size good is = λ k d lt.
     omega (arith, more, is)
 
 -- what stood for the records still does where nothing changed
+pub opens_none : (settings : LogSettings) (d : List ℕ) → OpensLog settings d d
+opens_none settings d = record { changes = no_write settings.segment 0 d; stands = λ records end stands. stands; layout = λ layout laid. laid }
+
 pub opens_same : (settings : LogSettings) (old new : Content) → ChangesBy Same old new → ChangesBy (OpensLog settings) old new
-opens_same settings old new changes = widen Same (OpensLog settings) old new changes (λ d c image same. subst (λ (l : List ℕ). OpensLog settings d l) (sym same) (record { changes = no_write settings.segment 0 d; stands = λ records end stands. stands }))
+opens_same settings old new changes = widen Same (OpensLog settings) old new changes (λ d c image same. subst (λ (l : List ℕ). OpensLog settings d l) (sym same) (opens_none settings d))
 
 pub opens_after : (settings : LogSettings) (old mid new : Content) → ChangesBy Same old mid → ChangesBy (OpensLog settings) mid new → ChangesBy (OpensLog settings) old new
 opens_after settings old mid new first second = chain Same (OpensLog settings) (OpensLog settings) old mid new first second
-    (λ d c image same. subst (λ (l : List ℕ). OpensLog settings d l) (sym same) (record { changes = no_write settings.segment 0 d; stands = λ records end stands. stands }))
+    (λ d c image same. subst (λ (l : List ℕ). OpensLog settings d l) (sym same) (opens_none settings d))
     (λ e c image by. (e, same_image old mid first e image, by))
 
 pub damaged_named : (settings : LogSettings) (bytes : List ℕ) (manifest : Manifest) (text : List ℕ) (at : ℕ) → (cell_at 0 bytes).value ≡ Some text → text ≡ manifest_text manifest → IsManifest manifest → manifest.settings ≡ settings → EndBadly manifest.settings.segment bytes manifest.live at → HasBadRecord settings bytes at

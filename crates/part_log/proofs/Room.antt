@@ -80,7 +80,7 @@ last_segment-append [] x = refl
 last_segment-append (y ∷ []) x = refl
 last_segment-append (y ∷ z ∷ zs) x = last_segment-append (z ∷ zs) x
 
-last_used-append : (xs : List SegmentInfo) (x : SegmentInfo) → last_used (xs ++ x ∷ []) ≡ x.used
+pub last_used-append : (xs : List SegmentInfo) (x : SegmentInfo) → last_used (xs ++ x ∷ []) ≡ x.used
 last_used-append [] x = refl
 last_used-append (y ∷ []) x = refl
 last_used-append (y ∷ z ∷ zs) x = last_used-append (z ∷ zs) x

@@ -10,6 +10,7 @@ use Rattle.msg_format.specs.declared.record.Record.{Record}
 use Rattle.msg_format.specs.Records.{record_text, IsRecord, lsn_of}
 use Rattle.part_log.specs.Records.{laid, AreRecords, EndsHere, HoldsRecords, RisesFrom, next_after}
 use Rattle.part_log.specs.Segments.{place_of, ChangesIn}
+use Rattle.part_log.specs.Layout.{Layout, first_layout}
 
 -- the live segments hold these records, segment by segment
 abbrev pub AllHold : ℕ → List ℕ → List Live → List (List Record) → Type 0
@@ -46,6 +47,25 @@ pub record IsNew (bytes : List ℕ) (records : List Record) (end : ℕ) : Type 0
 
 abbrev pub StandsFor : LogSettings → List ℕ → List Record → ℕ → Type 0
 StandsFor settings bytes records end = HasLog settings bytes records end ⊎ IsNew bytes records end
+
+-- how many bytes hold the records of the last segment
+abbrev pub last_size : List (List Record) → ℕ
+last_size [] = 0
+last_size (part ∷ []) = length (laid part)
+last_size (part ∷ other ∷ parts) = last_size (other ∷ parts)
+
+-- These bytes have a log of this layout.
+pub record HasLayout (settings : LogSettings) (bytes : List ℕ) (layout : Layout) : Type 0 where
+  pub records : List Record
+  pub log : HasLog settings bytes records layout.end
+  pub in_use : layout.in_use ≡ length log.manifest.live
+  pub used : layout.used ≡ last_size log.parts
+  pub next_generation : layout.next_generation ≡ log.manifest.next_generation
+  pub sequence : layout.sequence ≡ (cell_at 0 bytes).sequence
+
+-- A disk without a manifest is new, and has the layout that an opening gives it.
+abbrev pub IsLaidOut : LogSettings → List ℕ → Layout → Type 0
+IsLaidOut settings bytes layout = HasLayout settings bytes layout ⊎ (((cell_at 0 bytes).value ≡ None) × (layout ≡ first_layout))
 
 -- The manifest names other settings.
 pub record NamesOther (settings other : LogSettings) (bytes : List ℕ) : Type 0 where
@@ -109,7 +129,9 @@ pub record PutsLast (settings : LogSettings) (target : ℕ) (records : List Reco
   pub changes : ChangesIn settings.segment target old new
   pub stands : StandsFor settings new records end ⊎ StandsFor settings new (records ++ entry ∷ []) (end + 1)
 
--- At each moment of an opening: what the disk stood for it stands for still. A new disk is given a manifest, which names segment 0.
+-- At each moment of an opening: what the disk stood for it stands for still, in the same layout. A new disk is given a manifest, which names
+-- segment 0.
 pub record OpensLog (settings : LogSettings) (old new : List ℕ) : Type 0 where
   pub changes : ChangesIn settings.segment 0 old new
   pub stands : (records : List Record) (end : ℕ) → StandsFor settings old records end → StandsFor settings new records end
+  pub layout : (layout : Layout) → IsLaidOut settings old layout → IsLaidOut settings new layout

@@ -1,5 +1,6 @@
 pub mod Records
 pub mod Segments
+pub mod Layout
 pub mod Images
 pub mod Log
 pub mod Scan

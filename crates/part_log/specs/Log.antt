@@ -1,5 +1,5 @@
 -- A log between two calls.
-use Rattle.std.specs.Prelude.{◌≡◌, ◌≢◌, ℕ, ◌+◌, ◌<◌, ◌≤◌, ◌^◌, max, List, [], ◌∷◌, ◌++◌, Some, length, slice_index, Bool, nat_le, nat_lt, if◌then◌else◌, ◌||◌, ◌&&◌, not}
+use Rattle.std.specs.Prelude.{◌≡◌, ◌≢◌, ℕ, ◌+◌, ◌<◌, ◌≤◌, ◌^◌, max, List, [], ◌∷◌, ◌++◌, Some, length, slice_index, Bool, if◌then◌else◌, ◌||◌}
 use Rattle.disk_core.specs.Content.{Content, IsSettled, range}
 use Rattle.gate_slots.specs.Gate.{open_gate}
 use Rattle.gate_slots.specs.Cell.{cell_at}
@@ -13,6 +13,7 @@ use Rattle.part_log.specs.declared.segment.SegmentInfo.{SegmentInfo}
 use Rattle.part_log.specs.Records.{laid, AreRecords, RisesFrom, next_after, first_lsn, Placed, placed_from, IsPlaced}
 use Rattle.part_log.specs.Segments.{place_of, lives_of, is_among, free_from, last_segment, last_used, with_more}
 use Rattle.part_log.specs.Images.{joined}
+use Rattle.part_log.specs.Layout.{Layout, fits_behind, has_no_room, has_no_segment, is_worn_out}
 
 -- which settings a log can have
 pub record AreInRange (settings : LogSettings) : Type 0 where
@@ -106,17 +107,21 @@ pub record IsLog (table : LogTable) (content : Content) (placed : List Placed) :
   pub loaded : IsLoaded table.slots content.seen
   pub settled : IsSettled 0 2048 content
 
+-- the room that its records take
+abbrev pub layout_of : LogTable → Layout
+layout_of table = record { in_use = length table.segments; used = last_used table.segments; end = table.end; next_generation = table.next_generation; sequence = table.slots.sequence }
+
 -- worn: a number that only rises is too near to its end
 abbrev pub is_worn : LogTable → Bool
-is_worn table = nat_le (2 ^ 62) table.end || nat_le (2 ^ 62) table.next_generation || nat_le (2 ^ 62) table.slots.sequence
+is_worn table = is_worn_out (layout_of table)
 
 -- a record of so many bytes fits into the last segment, with a closed gate behind it
 abbrev pub fits_last : LogTable → ℕ → Bool
-fits_last table size = nat_le (last_used table.segments + size + 1) table.settings.segment
+fits_last table size = fits_behind table.settings (layout_of table) size
 
 -- no segment is free but the one that is kept for compaction
 abbrev pub is_packed : LogTable → Bool
-is_packed table = nat_le table.settings.segments (length table.segments + 1)
+is_packed table = has_no_segment table.settings (layout_of table)
 
 -- no segment can be added: none is free but the kept one, or the log is worn
 abbrev pub takes_no_segment : LogTable → Bool
@@ -132,7 +137,7 @@ target_of table size = if fits_last table size then last_segment table.segments 
 
 -- a record of so many bytes has no place: it is longer than a segment, or there is no room for it, or the log is worn
 abbrev pub is_full : LogTable → ℕ → Bool
-is_full table size = nat_lt table.settings.segment (size + 1) || (not (fits_last table size) && is_packed table) || is_worn table
+is_full table size = has_no_room table.settings (layout_of table) size
 
 -- a segment that becomes the last one
 abbrev pub new_info : LogTable → ℕ → SegmentInfo

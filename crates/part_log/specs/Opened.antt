@@ -4,16 +4,17 @@ use Rattle.disk_core.specs.Content.{Content}
 use Rattle.log_manifest.specs.declared.manifest.LogSettings.{LogSettings}
 use Rattle.part_log.specs.declared.opening.Opened.{Opened}
 use Rattle.part_log.specs.Records.{Placed, records_of}
-use Rattle.part_log.specs.Images.{StandsFor}
-use Rattle.part_log.specs.Log.{LogTable, IsLog}
+use Rattle.part_log.specs.Images.{IsLaidOut, StandsFor}
+use Rattle.part_log.specs.Log.{LogTable, IsLog, layout_of}
 use Rattle.part_log.specs.Scan.{found_of}
 
 abbrev pub opened_table : LogSettings → Opened → LogTable
 opened_table settings opened = record { settings = settings; segments = opened.segments.items; next_generation = opened.next_generation; end = opened.end; slots = opened.slots }
 
--- The log that was opened has the records that the disk stood for, and these were found.
+-- The log that was opened has the records that the disk stood for, in their layout, and these were found.
 pub record IsOpened (settings : LogSettings) (before : List ℕ) (opened : Opened) (content : Content) : Type 0 where
   pub placed : List Placed
   pub log : IsLog (opened_table settings opened) content placed
   pub stands : StandsFor settings before (records_of placed) opened.end
+  pub laid_out : IsLaidOut settings before (layout_of (opened_table settings opened))
   pub found : opened.found.items ≡ found_of placed

@@ -1,6 +1,6 @@
 //! Putting records last.
 
-ghost use Rattle.std.specs.Prelude.{◌≡◌, ◌⊎◌, ◌+◌, ◌^◌, ◌<◌, ◌≤◌, ◌↔◌, ◌++◌, ◌∷◌, [], List, ℕ, length, true, false, OnOk, OnErr, IfOk, IsErrOf};
+ghost use Rattle.std.specs.Prelude.{if◌then◌else◌, ◌≡◌, ◌⊎◌, ◌+◌, ◌^◌, ◌<◌, ◌≤◌, ◌↔◌, ◌++◌, ◌∷◌, [], List, ℕ, length, true, false, OnOk, OnErr, IfOk, IsErrOf};
 ghost use Rattle.outside.specs.Causes.{Rose};
 ghost use Rattle.disk_core.specs.Content.{ChangesBy};
 ghost use Rattle.msg_format.specs.declared.record.Record.{Record};
@@ -8,7 +8,8 @@ ghost use Rattle.msg_format.specs.Records.{IsRecord, lsn_of, record_size};
 ghost use Rattle.part_log.specs.Records.{Placed, records_of};
 ghost use Rattle.part_log.specs.Segments.{ChangesIn, last_segment, last_used, with_more};
 ghost use Rattle.part_log.specs.Images.{KeepsLog, PutsLast};
-ghost use Rattle.part_log.specs.Log.{AllVisible, Follows, IsLog, IsTable, grown, is_full, next_place, roomy_table, target_of};
+ghost use Rattle.part_log.specs.Layout.{packed_with, with_new_segment, with_size};
+ghost use Rattle.part_log.specs.Log.{AllVisible, Follows, IsLog, IsTable, fits_last, grown, is_full, layout_of, next_place, roomy_table, target_of};
 
 use crate::fault::LogFault;
 use crate::log::PartLog;
@@ -44,6 +45,7 @@ impl<D: Disk> PartLog<D> {
         ensures outside { D.tells → ChangesIn self.old.table.settings.segment (target_of self.old.table size) (D.content self.old.disk).seen (D.content self.new.disk).seen }
         ensures visible { D.tells → (placed : List Placed) → IsLog self.old.table (D.content self.old.disk) placed → AllVisible self.old.table.settings (D.content self.new.disk).seen placed }
         ensures table { OnOk result (self.new.table ≡ roomy_table self.old.table size self.new.table.slots) }
+        ensures layout { OnOk result (layout_of self.new.table ≡ (if fits_last self.old.table size then layout_of self.old.table else with_new_segment (layout_of self.old.table))) }
         ensures up { OnOk result (self.new.down ≡ false) }
 
         ensures failed { IsErrOf result LogFault.Failed → Rose (D.faults self.old.disk) (D.faults self.new.disk) × (self.new.down ≡ true) × (self.new.table ≡ self.old.table) }
@@ -75,6 +77,7 @@ impl<D: Disk> PartLog<D> {
         ensures good { OnOk result (IsTable self.new.table) }
         ensures place { IfOk result (λ place. place ≡ next_place self.old.table) }
         ensures table { OnOk result (self.new.table ≡ grown self.old.table (record_size entry.now)) }
+        ensures layout { OnOk result (layout_of self.new.table ≡ with_size (layout_of self.old.table) (record_size entry.now)) }
         ensures up { OnOk result (self.new.down ≡ false) }
 
         ensures failed { OnErr result (Rose (D.faults self.old.disk) (D.faults self.new.disk) × (self.new.down ≡ true) × (self.new.table ≡ self.old.table)) }
@@ -114,6 +117,7 @@ impl<D: Disk> PartLog<D> {
         ensures good { OnOk result (IsTable self.new.table) }
         ensures place { IfOk result (λ place. place ≡ next_place (roomy_table self.old.table (record_size entry.now) self.new.table.slots)) }
         ensures table { OnOk result (self.new.table ≡ grown (roomy_table self.old.table (record_size entry.now) self.new.table.slots) (record_size entry.now)) }
+        ensures layout { OnOk result (layout_of self.new.table ≡ packed_with self.old.table.settings (layout_of self.old.table) (record_size entry.now)) }
 
         ensures full { IsErrOf result LogFault.Full ↔ ((self.old.down ≡ false) × (is_full self.old.table (record_size entry.now) ≡ true)) }
         ensures down { IsErrOf result LogFault.Down ↔ (self.old.down ≡ true) }

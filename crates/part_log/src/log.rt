@@ -2,7 +2,8 @@
 
 ghost use Rattle.std.specs.Prelude.{◌≡◌, ◌+◌, ◌^◌, ◌<◌, ◌≤◌, ◌↔◌, List, ℕ, length, true, false};
 ghost use Rattle.part_log.specs.Records.{Placed};
-ghost use Rattle.part_log.specs.Log.{IsLog, IsTable, disk_size, fits_last, is_full, is_packed, is_worn, takes_no_segment};
+ghost use Rattle.part_log.specs.Images.{IsLaidOut};
+ghost use Rattle.part_log.specs.Log.{IsLog, IsTable, disk_size, fits_last, is_full, is_packed, is_worn, layout_of, takes_no_segment};
 
 use crate::segment::SegmentInfo;
 use crate::table::last_used;
@@ -93,7 +94,9 @@ impl<D: Disk> PartLog<D> {
 
     /// Hands the disk back.
     pub fn close(self) -> D
-        ensures { result ≡ self.disk }
+        ensures disk { result ≡ self.disk }
+        // Whatever a crash leaves of a log that isn't down has its layout.
+        ensures laid_out { D.tells → self.down ≡ false → (c : List ℕ) → (D.content result).images c → IsLaidOut self.table.settings c (layout_of self.table) }
     {
         let PartLog {
             disk,

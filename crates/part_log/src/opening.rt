@@ -8,9 +8,8 @@ ghost use Rattle.gate_slots.specs.Slots.{IsLoaded};
 ghost use Rattle.log_manifest.specs.declared.manifest.LogSettings.{LogSettings};
 ghost use Rattle.log_manifest.specs.Manifests.{IsManifest, manifest_text};
 ghost use Rattle.part_log.specs.Records.{Placed, records_of};
-ghost use Rattle.part_log.specs.Segments.{ChangesIn};
-ghost use Rattle.part_log.specs.Images.{EndBadly, IsDamaged, NamesOther, OpensLog, StandsFor};
-ghost use Rattle.part_log.specs.Log.{AreInRange, IsLog, IsTable, disk_size};
+ghost use Rattle.part_log.specs.Images.{EndBadly, IsDamaged, IsLaidOut, NamesOther, OpensLog, StandsFor};
+ghost use Rattle.part_log.specs.Log.{AreInRange, IsLog, IsTable, disk_size, layout_of};
 ghost use Rattle.part_log.specs.Opened.{IsOpened, opened_table};
 ghost use Rattle.part_log.specs.Scan.{found_of};
 
@@ -100,7 +99,7 @@ fn format<D: Disk>(
     requires loaded { D.tells → IsLoaded slots (D.content disk.old).seen }
 
     ensures during { D.tells → ChangesBy (OpensLog settings) (D.content disk.old) (D.content disk.new) }
-    ensures outside { D.tells → ChangesIn settings.segment 0 (D.content disk.old).seen (D.content disk.new).seen }
+    ensures opens { D.tells → OpensLog settings (D.content disk.old).seen (D.content disk.new).seen }
     ensures only { OnOk result (D.tells → Only (D.content disk.new)) }
     ensures table { IfOk result (λ opened. IsTable (opened_table settings opened)) }
     ensures opened { IfOk result (λ opened. D.tells → IsOpened settings (D.content disk.old).seen opened (D.content disk.new)) }
@@ -176,7 +175,7 @@ fn open_disk<D: Disk>(
     requires size { D.size disk.old ≡ disk_size settings }
 
     ensures during { D.tells → ChangesBy (OpensLog settings) (D.content disk.old) (D.content disk.new) }
-    ensures outside { D.tells → ChangesIn settings.segment 0 (D.content disk.old).seen (D.content disk.new).seen }
+    ensures opens { D.tells → OpensLog settings (D.content disk.old).seen (D.content disk.new).seen }
     ensures kept { D.tells → ((cell_at 0 (D.content disk.old).seen).value ≡ None → ⊥) → (D.content disk.new).seen ≡ (D.content disk.old).seen }
     ensures only { OnOk result (D.tells → Only (D.content disk.new)) }
     ensures table { IfOk result (λ opened. IsTable (opened_table settings opened)) }
@@ -210,13 +209,14 @@ impl<D: Disk> PartLog<D> {
         // The log has the records and the end lsn that the disk stood for, and those were found.
         ensures records { IfOk result (λ opened. D.tells → (placed : List Placed) × IsLog opened.0.table (D.content opened.0.disk) placed
             × StandsFor settings (D.content disk).seen (records_of placed) opened.0.table.end × (opened.1.items ≡ found_of placed)) }
+        ensures laid_out { IfOk result (λ opened. D.tells → IsLaidOut settings (D.content disk).seen (layout_of opened.0.table)) }
         ensures table { IfOk result (λ opened. IsTable opened.0.table × (opened.0.table.settings ≡ settings) × (opened.0.down ≡ false)) }
 
         // Of the disk nothing changes but that a new one is given a manifest.
         ensures during { IfOk result (λ opened. D.tells → ChangesBy (OpensLog settings) (D.content disk) (D.content opened.0.disk)) }
         ensures during_err { IfErr result (λ refusal. D.tells → ChangesBy (OpensLog settings) (D.content disk) (D.content refusal.1)) }
-        ensures outside { IfOk result (λ opened. D.tells → ChangesIn settings.segment 0 (D.content disk).seen (D.content opened.0.disk).seen) }
-        ensures outside_err { IfErr result (λ refusal. D.tells → ChangesIn settings.segment 0 (D.content disk).seen (D.content refusal.1).seen) }
+        ensures opens { IfOk result (λ opened. D.tells → OpensLog settings (D.content disk).seen (D.content opened.0.disk).seen) }
+        ensures opens_err { IfErr result (λ refusal. D.tells → OpensLog settings (D.content disk).seen (D.content refusal.1).seen) }
         ensures kept { IfOk result (λ opened. D.tells → ((cell_at 0 (D.content disk).seen).value ≡ None → ⊥) → (D.content opened.0.disk).seen ≡ (D.content disk).seen) }
         ensures kept_err { IfErr result (λ refusal. D.tells → ((cell_at 0 (D.content disk).seen).value ≡ None → ⊥) → (D.content refusal.1).seen ≡ (D.content disk).seen) }
         ensures only { IfOk result (λ opened. D.tells → Only (D.content opened.0.disk)) }

@@ -10,7 +10,8 @@ ghost use Rattle.log_manifest.specs.Manifests.{manifest_text};
 ghost use Rattle.part_log.specs.Records.{Placed, records_of};
 ghost use Rattle.part_log.specs.Segments.{place_of, ChangesIn};
 ghost use Rattle.part_log.specs.Images.{KeepsLog, OpensLog};
-ghost use Rattle.part_log.specs.Log.{AllVisible, AreInRange, IsLog, IsRolling, LogTable, first_table, manifest_of, is_packed, is_worn, least_free, rolled_table, takes_no_segment};
+ghost use Rattle.part_log.specs.Layout.{with_new_segment};
+ghost use Rattle.part_log.specs.Log.{AllVisible, AreInRange, IsLog, IsRolling, LogTable, first_table, layout_of, manifest_of, is_packed, is_worn, least_free, rolled_table, takes_no_segment};
 
 use crate::fault::LogFault;
 use crate::log::PartLog;
@@ -89,6 +90,7 @@ impl<D: Disk> PartLog<D> {
         ensures outside { D.tells → ChangesIn self.old.table.settings.segment (least_free self.old.table) (D.content self.old.disk).seen (D.content self.new.disk).seen }
         ensures visible { D.tells → (placed : List Placed) → IsLog self.old.table (D.content self.old.disk) placed → AllVisible self.old.table.settings (D.content self.new.disk).seen placed }
         ensures table { OnOk result (self.new.table ≡ rolled_table self.old.table (least_free self.old.table) self.new.table.slots) }
+        ensures layout { OnOk result (layout_of self.new.table ≡ with_new_segment (layout_of self.old.table)) }
         ensures up { OnOk result (self.new.down ≡ false) }
 
         ensures failed { IsErrOf result LogFault.Failed → Rose (D.faults self.old.disk) (D.faults self.new.disk) × (self.new.down ≡ true) × (self.new.table ≡ self.old.table) }
@@ -120,6 +122,7 @@ impl<D: Disk> PartLog<D> {
             }
         }
     }
+
     /// Adds the free segment with the least number as the last live one, so that the next record is put into it. Full comes
     /// exactly where no segment is free but the one kept for compaction, or where the log is worn. `Memory` comes before
     /// the first call of the disk. After `Failed` the log is down, and a disk that is opened again has the segment or not.
@@ -130,6 +133,7 @@ impl<D: Disk> PartLog<D> {
         ensures rolled { OnOk result (D.tells → (placed : List Placed) → IsLog self.old.table (D.content self.old.disk) placed → IsLog self.new.table (D.content self.new.disk) placed) }
         ensures outside { D.tells → ChangesIn self.old.table.settings.segment (least_free self.old.table) (D.content self.old.disk).seen (D.content self.new.disk).seen }
         ensures table { OnOk result (self.new.table ≡ rolled_table self.old.table (least_free self.old.table) self.new.table.slots) }
+        ensures layout { OnOk result (layout_of self.new.table ≡ with_new_segment (layout_of self.old.table)) }
 
         ensures full { IsErrOf result LogFault.Full ↔ ((self.old.down ≡ false) × (takes_no_segment self.old.table ≡ true)) }
         ensures down { IsErrOf result LogFault.Down ↔ (self.old.down ≡ true) }

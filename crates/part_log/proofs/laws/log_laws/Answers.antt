@@ -1,3 +1,4 @@
+use Rattle.part_log.proofs.Layouts.{one_layout, some_layout}
 use Rattle.part_log.proofs.Meaning.{one_log}
 use Rattle.part_log.proofs.laws.log_laws.Goals as goal
 
@@ -6,3 +7,9 @@ returns-clause-records c = λ settings bytes xs ys m n one two. (one_log setting
 
 pub returns-clause-end : goal.returns-clause-end
 returns-clause-end c = λ settings bytes xs ys m n one two. (one_log settings bytes xs ys m n one two).end
+
+pub returns-clause-layout : goal.returns-clause-layout
+returns-clause-layout c = one_layout
+
+pub returns-clause-some_layout : goal.returns-clause-some_layout
+returns-clause-some_layout c = some_layout

@@ -1,11 +1,9 @@
 use Rattle.std.proofs.Common.{ℕ, List, sym, ◌∙◌, subst}
-use Rattle.part_log.specs.Segments.{ChangesIn}
-use Rattle.part_log.specs.Images.{IsDamaged, NamesOther}
+use Rattle.part_log.specs.Images.{IsDamaged, NamesOther, OpensLog}
 use Rattle.part_log.specs.Opened.{IsOpened}
-use Rattle.part_log.proofs.Segments.{no_write}
 use Rattle.part_log.proofs.Room.{if_ok_map}
 use Rattle.part_log.proofs.Scanning.{same_twice}
-use Rattle.part_log.proofs.Reopening.{opens_same, opens_after}
+use Rattle.part_log.proofs.Reopening.{opens_none, opens_same, opens_after}
 use Rattle.part_log.proofs.opening.open_disk.Goals as goal
 
 pub returns-in-Some-clause-during : goal.returns-in-Some-clause-during
@@ -16,11 +14,26 @@ returns-in-Some-clause-during g c = λ t.
     let new = g.D.Disk.content c.read_named.new.disk in
     opens_same c.args.settings old new (same_twice old loaded new (same_twice old synced loaded (c.sync.ensures.told t).during (c.load.ensures.during t)) (c.read_named.ensures.during t))
 
-pub returns-in-Some-clause-outside : goal.returns-in-Some-clause-outside
-returns-in-Some-clause-outside g c = λ t.
+pub returns-in_err-sync-clause-opens : goal.returns-in_err-sync-clause-opens
+returns-in_err-sync-clause-opens g c = λ t.
+    let seen = (g.D.Disk.content c.args.disk.now).seen in
+    subst (λ (l : List ℕ). OpensLog c.args.settings seen l) (sym (c.sync.ensures.told t).seen) (opens_none c.args.settings seen)
+
+pub returns-in_err-slots-clause-opens : goal.returns-in_err-slots-clause-opens
+returns-in_err-slots-clause-opens g c = λ t.
+    let seen = (g.D.Disk.content c.args.disk.now).seen in
+    let whole = c.load.ensures.seen t ∙ (c.sync.ensures.told t).seen in
+    subst (λ (l : List ℕ). OpensLog c.args.settings seen l) (sym whole) (opens_none c.args.settings seen)
+
+pub returns-in-Some-clause-opens : goal.returns-in-Some-clause-opens
+returns-in-Some-clause-opens g c = λ t.
     let seen = (g.D.Disk.content c.args.disk.now).seen in
     let whole = c.read_named.ensures.seen t ∙ c.load.ensures.seen t ∙ (c.sync.ensures.told t).seen in
-    subst (λ (l : List ℕ). ChangesIn c.args.settings.segment 0 seen l) (sym whole) (no_write c.args.settings.segment 0 seen)
+    subst (λ (l : List ℕ). OpensLog c.args.settings seen l) (sym whole) (opens_none c.args.settings seen)
+
+pub returns-in-None-clause-opens : goal.returns-in-None-clause-opens
+returns-in-None-clause-opens g c = λ t.
+    subst (λ (l : List ℕ). OpensLog c.args.settings l (g.D.Disk.content c.format.new.disk).seen) (c.load.ensures.seen t ∙ (c.sync.ensures.told t).seen) (c.format.ensures.opens t)
 
 pub returns-in-Some-clause-damaged : goal.returns-in-Some-clause-damaged
 returns-in-Some-clause-damaged g c = λ at is t.

@@ -4,12 +4,12 @@ use Rattle.gate_slots.specs.Slots.{IsLoaded}
 use Rattle.log_manifest.specs.Manifests.{manifest_text}
 use Rattle.part_log.specs.declared.segment.SegmentInfo.{SegmentInfo}
 use Rattle.part_log.specs.Records.{records_of}
-use Rattle.part_log.specs.Segments.{lives_of}
-use Rattle.part_log.specs.Images.{HasLog}
-use Rattle.part_log.specs.Log.{IsLog, IsTable, placed_in}
+use Rattle.part_log.specs.Segments.{lives_of, with_firsts}
+use Rattle.part_log.specs.Images.{HasLog, IsLaidOut}
+use Rattle.part_log.specs.Log.{IsLog, IsTable, layout_of, placed_in}
 use Rattle.part_log.specs.Scan.{AreRead}
 use Rattle.part_log.proofs.Scanning.{only_same}
-use Rattle.part_log.proofs.Reopening.{table_good, read_log, read_stands}
+use Rattle.part_log.proofs.Reopening.{table_good, read_laid, read_log, read_stands}
 use Rattle.part_log.proofs.opening.read_log.Goals as goal
 
 pub returns-in_err-segments-clause-only : goal.returns-in_err-segments-clause-only
@@ -59,5 +59,8 @@ returns-clause-opened g c = λ t.
           (read_log manifest c.requires.good c.requires.ranges infos lives c.in_ok-segments.ensures.fit slots c.requires.base below next end end_is c.read_lives.ensures.next new found parts.0 read value loaded only);
       stands = inl (subst (λ (l : List ℕ). HasLog manifest.settings l (records_of placed) end) seen
           (read_stands manifest c.requires.good c.requires.ranges infos lives c.in_ok-segments.ensures.fit slots c.requires.base below next end end_is c.read_lives.ensures.next new found parts.0 read value));
+      laid_out = subst (λ (l : List SegmentInfo). IsLaidOut manifest.settings old.seen (layout_of (record { settings = manifest.settings; segments = l; next_generation = manifest.next_generation; end = end; slots = slots }))) (sym c.set_firsts.ensures)
+          (subst (λ (l : List ℕ). IsLaidOut manifest.settings l (layout_of (record { settings = manifest.settings; segments = with_firsts infos end; next_generation = manifest.next_generation; end = end; slots = slots }))) seen
+          (read_laid manifest c.requires.good c.requires.ranges infos lives c.in_ok-segments.ensures.fit slots c.requires.base below next end end_is c.read_lives.ensures.next new found parts.0 read value loaded only));
       found = parts.1.found_is;
     }

@@ -1,11 +1,13 @@
 use Rattle.std.proofs.Common.{◌≡◌, ℕ, ◌+◌, ◌<◌, ◌≤◌, arith, List, [], ◌∷◌, ◌++◌, false, sym, ◌∙◌, ap, subst}
 use Rattle.disk_core.specs.Content.{ChangesBy}
+use Rattle.gate_slots.specs.Slots.{CurrentSlot}
 use Rattle.log_manifest.specs.Manifests.{IsManifest, manifest_text}
 use Rattle.part_log.specs.declared.segment.SegmentInfo.{SegmentInfo}
 use Rattle.part_log.specs.Records.{Placed, records_of}
 use Rattle.part_log.specs.Images.{KeepsLog}
 use Rattle.part_log.specs.Segments.{place_of, is_among, free_from, lives_of}
-use Rattle.part_log.specs.Log.{LogState, LogTable, IsTable, IsLog, is_worn, is_packed, least_free, manifest_of, with_segment, new_info}
+use Rattle.part_log.specs.Log.{LogState, LogTable, IsTable, IsLog, is_worn, is_packed, layout_of, least_free, manifest_of, with_segment, new_info}
+use Rattle.part_log.proofs.Layouts.{rolled_layout}
 use Rattle.part_log.proofs.Staying.{visible_there, visible_elsewhere}
 use Rattle.part_log.proofs.Room.{next_manifest, rolling_from, short_text, rolled_is_good, nothing_kept}
 use Rattle.part_log.proofs.log.PartLog.add_segment.Goals as goal
@@ -186,3 +188,13 @@ returns-in-Err-clause-visible g c =
     let free : is_among target s.segments.items ≡ false = ap (λ (l : List SegmentInfo). is_among target l) (sym c.deref.ensures.value) ∙ c.least_free-target.ensures.free in
     let some : 1 ≤ s.settings.segment = omega (arith, good.settings.least) in
     rw (← c.self.view_is) (λ t placed log. visible_elsewhere table good (g.D.Disk.content s.disk) placed log target (g.D.Disk.content c.name_segment.new.disk).seen free (c.name_segment.ensures.outside t s.settings.segment target some c.place_of-place.ensures.place))
+
+pub returns-in-Ok-clause-layout : goal.returns-in-Ok-clause-layout
+returns-in-Ok-clause-layout g c =
+    let s = c.self.inside in
+    let table : LogTable = record { settings = s.settings; segments = s.segments.items; next_generation = s.next_generation; end = s.end; slots = s.slots } in
+    let target : ℕ = c.least_free-target.result in
+    let segments_are : c.in_ok-segments.segments.items ≡ s.segments.items ++ new_info table target ∷ [] = c.in_ok-segments.ensures ∙ ap (λ (l : List SegmentInfo). l ++ new_info table target ∷ []) c.deref-2.ensures.value in
+    rw (← c.self.view_is)
+    (ap (λ (l : List SegmentInfo). layout_of (record { settings = s.settings; segments = l; next_generation = s.next_generation + 1; end = s.end; slots = c.name_segment.new.slots })) segments_are
+    ∙ rolled_layout table target c.name_segment.new.slots (ap (λ (slots : CurrentSlot). slots.sequence) c.in-Ok.ensures.slots))

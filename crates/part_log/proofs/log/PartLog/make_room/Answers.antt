@@ -3,7 +3,8 @@ use Rattle.disk_core.specs.Content.{ChangesBy}
 use Rattle.part_log.specs.Records.{records_of}
 use Rattle.part_log.specs.Images.{KeepsLog}
 use Rattle.part_log.specs.Segments.{last_segment}
-use Rattle.part_log.specs.Log.{least_free, target_of}
+use Rattle.part_log.specs.Layout.{with_new_segment}
+use Rattle.part_log.specs.Log.{layout_of, least_free, target_of}
 use Rattle.part_log.proofs.Room.{nothing_kept}
 use Rattle.part_log.proofs.Staying.{visible_there}
 use Rattle.part_log.proofs.log.PartLog.make_room.Goals as goal
@@ -21,3 +22,8 @@ returns-else-fits-clause-during g c = λ t placed log.
 
 pub returns-then-fits-clause-visible : goal.returns-then-fits-clause-visible
 returns-then-fits-clause-visible g c = λ t placed log. visible_there c.args.self.now.table c.fits.ensures.table (g.D.Disk.content c.args.self.now.disk) placed log
+
+pub returns-then-fits-clause-layout : goal.returns-then-fits-clause-layout
+returns-then-fits-clause-layout g c =
+    let table = c.args.self.now.table in
+    ap (λ (b : Bool). if b then layout_of table else with_new_segment (layout_of table)) (sym c.if-fits.true ∙ c.fits.ensures.fits)

@@ -5,7 +5,8 @@ use Rattle.msg_format.specs.Records.{record_size}
 use Rattle.part_log.specs.declared.segment.SegmentInfo.{SegmentInfo}
 use Rattle.part_log.specs.Records.{Placed}
 use Rattle.part_log.specs.Segments.{place_of, last_segment, last_used, with_more}
-use Rattle.part_log.specs.Log.{LogState, LogTable, IsTable, IsLog, Follows, next_place}
+use Rattle.part_log.specs.Log.{LogState, LogTable, IsTable, IsLog, Follows, layout_of, next_place}
+use Rattle.part_log.proofs.Layouts.{grown_layout}
 use Rattle.part_log.proofs.Staying.{visible_front}
 use Rattle.part_log.proofs.Putting.{size_of_rest, gate_inside, gate_shut, put_outside, put_table, put_during, put_log}
 use Rattle.part_log.proofs.log.PartLog.put_last.Goals as goal
@@ -142,3 +143,12 @@ returns-in-Ok-clause-good g c =
     let grown_is : c.grow_last.new.segments.items ≡ with_more s.segments.items (record_size c.args.entry.now) = c.grow_last.ensures ∙ ap (λ (n : ℕ). with_more s.segments.items n) c.record_size.ensures in
     subst (λ (l : List SegmentInfo). IsTable (record { settings = s.settings; segments = l; next_generation = s.next_generation; end = s.end + 1; slots = s.slots })) (sym grown_is)
     (put_table table c.self.invariant.0 c.args.entry.now c.args.rest.now follows room below)
+
+pub returns-in-Ok-clause-layout : goal.returns-in-Ok-clause-layout
+returns-in-Ok-clause-layout g c =
+    let s = c.self.inside in
+    let table : LogTable = record { settings = s.settings; segments = s.segments.items; next_generation = s.next_generation; end = s.end; slots = s.slots } in
+    let grown_is : c.grow_last.new.segments.items ≡ with_more s.segments.items (record_size c.args.entry.now) = c.grow_last.ensures ∙ ap (λ (n : ℕ). with_more s.segments.items n) c.record_size.ensures in
+    rw (← c.self.view_is)
+    (ap (λ (l : List SegmentInfo). layout_of (record { settings = s.settings; segments = l; next_generation = s.next_generation; end = s.end + 1; slots = s.slots })) grown_is
+    ∙ grown_layout table (record_size c.args.entry.now) c.self.invariant.0)
