@@ -1,20 +1,47 @@
 -- What a log with its index stands for.
-use Rattle.std.proofs.Common.{◌≡◌, inl, ℕ, List, sym, ◌∙◌, ap, subst}
+use Rattle.std.proofs.Common.{◌≡◌, inl, inr, ℕ, List, [], Option, Some, None, refl, sym, ◌∙◌, ap, subst}
 use Rattle.disk_core.specs.Content.{Content}
+use Rattle.gate_slots.specs.Cell.{cell_at}
 use Rattle.cell_model.specs.declared.cell.Cell.{Cell}
 use Rattle.cell_model.specs.Cells.{cell_in}
 use Rattle.log_manifest.specs.declared.manifest.LogSettings.{LogSettings}
+use Rattle.log_manifest.specs.declared.manifest.Manifest.{Manifest}
+use Rattle.log_manifest.specs.Manifests.{manifest_text}
 use Rattle.msg_format.specs.declared.record.Record.{Record}
-use Rattle.part_log.specs.Images.{HasLog}
+use Rattle.part_log.specs.Images.{HasLog, OpensLog, StandsFor}
 use Rattle.part_log.specs.Records.{Placed, records_of}
 use Rattle.part_log.specs.Log.{LogTable, IsTable, IsLog, AllVisible}
 use Rattle.part_log.proofs.Fronts.{its_records, shown_stands}
-use Rattle.part_log.proofs.Meaning.{one_log}
+use Rattle.part_log.proofs.Meaning.{both_logs, not_new, one_log, one_manifest}
 use Rattle.part_log.proofs.Visible.{visible}
 use Rattle.replica_core.specs.declared.index.Spot.{Spot}
-use Rattle.replica_core.specs.Maps.{cell_from, AllStandFor, AllStandForCells, StandsForCells}
+use Rattle.replica_core.specs.Maps.{cell_from, AllStandFor, AllStandForCells, AreTidy, HasTidy, StandsForCells}
 use Rattle.replica_core.specs.Index.{cells_of, IsIndexed, IsReady}
 use Rattle.replica_core.proofs.Spots.{index_cells}
+
+-- a disk without a manifest has no records
+pub none_tidy : (settings : LogSettings) (bytes : List ℕ) (records : List Record) (end : ℕ) → (cell_at 0 bytes).value ≡ None → StandsFor settings bytes records end → AreTidy records
+none_tidy settings bytes records end none (inl log) = (let both : ◌≡◌ {A = Option (List ℕ)} (Some (manifest_text log.manifest)) None = sym log.has.value ∙ none in absurd (cc both))
+none_tidy settings bytes records end none (inr fresh) = subst (λ (l : List Record). AreTidy l) (sym fresh.empty) tt
+
+-- bytes that stand for tidy records do so under any settings
+stand_tidy : (settings other : LogSettings) (bytes : List ℕ) (xs ys : List Record) (m n : ℕ) → AreTidy xs → StandsFor settings bytes xs m → StandsFor other bytes ys n → AreTidy ys
+stand_tidy settings other bytes xs ys m n tidy (inl one) (inl two) =
+    let named : settings ≡ other = sym one.same ∙ ap (λ (x : Manifest). x.settings) (one_manifest one.manifest two.manifest bytes one.has two.has) ∙ two.same in
+    subst (λ (l : List Record). AreTidy l) (both_logs other bytes xs ys m n (subst (λ (s : LogSettings). HasLog s bytes xs m) named one) two).records tidy
+stand_tidy settings other bytes xs ys m n tidy (inl one) (inr two) = absurd (not_new settings bytes xs ys m n one two)
+stand_tidy settings other bytes xs ys m n tidy (inr one) two = none_tidy other bytes ys n one.none two
+
+pub cells_tidy : (settings other : LogSettings) (bytes : List ℕ) (cells : List ℕ → Cell) (end : ℕ) → StandsForCells settings bytes cells end → HasTidy other bytes
+cells_tidy settings other bytes cells end it records n stands = stand_tidy settings other bytes it.records records end n it.tidy it.stands stands
+
+-- an opening leaves them so, whatever the settings
+pub opens_tidy : (settings other : LogSettings) (old new : List ℕ) → OpensLog settings old new → (((cell_at 0 old).value ≡ None → ⊥) → new ≡ old) → HasTidy other old → HasTidy other new
+opens_tidy settings other old new opens kept tidy = go (cell_at 0 old).value refl
+  where
+    go : (v : Option (List ℕ)) → (cell_at 0 old).value ≡ v → HasTidy other new
+    go (Some text) is = subst (λ (l : List ℕ). HasTidy other l) (sym (kept (λ none. (let both : ◌≡◌ {A = Option (List ℕ)} (Some text) None = sym is ∙ none in absurd (cc both))))) tidy
+    go None is = λ records end stands. stand_tidy settings other new [] records 0 end tt (opens.stands [] 0 (inr (record { none = is; empty = refl; first = refl }))) stands
 
 -- whatever a crash leaves of a log, it has the records
 pub log_stands : (table : LogTable) (content : Content) (placed : List Placed) → IsTable table → IsLog table content placed → AllStandFor table.settings content (records_of placed) table.end

@@ -14,8 +14,8 @@ ghost use Rattle.replica_core.specs.State.{Changes, due_record};
 pub fn replica_laws()
     // Bytes stand for one map, and one end lsn.
     ensures one { (settings : LogSettings) (bytes : List ℕ) (f h : List ℕ → Cell) (m n : ℕ) → StandsForCells settings bytes f m → StandsForCells settings bytes h n → (m ≡ n) × ((id : List ℕ) → f id ≡ h id) }
-    // Bytes that stand for cells can be opened as a replica, and so can a disk without a manifest.
-    ensures tidy { (settings : LogSettings) (bytes : List ℕ) (cells : List ℕ → Cell) (end : ℕ) → StandsForCells settings bytes cells end → HasTidy settings bytes }
+    // Bytes that stand for cells can be opened as a replica, and so can a disk without a manifest, whatever the settings.
+    ensures tidy { (settings other : LogSettings) (bytes : List ℕ) (cells : List ℕ → Cell) (end : ℕ) → StandsForCells settings bytes cells end → HasTidy other bytes }
     ensures fresh { (settings : LogSettings) (bytes : List ℕ) → (cell_at 0 bytes).value ≡ None → HasTidy settings bytes }
     // An ask has a record to put exactly where it changes its cell, and then one.
     ensures due { (lsn : ℕ) (cell : Cell) (ask : Ask) → Changes cell ask → length (due_record lsn cell ask) ≡ 1 }

@@ -7,9 +7,8 @@ ghost use Rattle.gate_slots.specs.Cell.{cell_at};
 ghost use Rattle.log_manifest.specs.declared.manifest.LogSettings.{LogSettings};
 ghost use Rattle.cell_model.specs.declared.cell.Cell.{Cell};
 ghost use Rattle.cell_model.specs.Cells.{cell_in};
-ghost use Rattle.part_log.specs.Segments.{ChangesIn};
-ghost use Rattle.part_log.specs.Images.{IsDamaged, NamesOther, OpensLog};
-ghost use Rattle.part_log.specs.Log.{AreInRange, disk_size};
+ghost use Rattle.part_log.specs.Images.{IsDamaged, IsLaidOut, NamesOther, OpensLog};
+ghost use Rattle.part_log.specs.Log.{AreInRange, disk_size, layout_of};
 ghost use Rattle.replica_core.specs.Maps.{HasTidy, StandsForCells};
 
 use crate::index::index_of;
@@ -29,14 +28,16 @@ impl<D: Disk> Replica<D> {
         ensures cells { IfOk result (λ replica. D.tells → StandsForCells settings (D.content disk).seen (cell_in replica.cells) replica.log.table.end) }
         ensures again { IfOk result (λ replica. D.tells → (cells : List ℕ → Cell) (end : ℕ) → StandsForCells settings (D.content disk).seen cells end
             → (replica.log.table.end ≡ end) × ((id : List ℕ) → cell_in replica.cells id ≡ cells id)) }
+        // So is the room that its records take.
+        ensures laid_out { IfOk result (λ replica. D.tells → IsLaidOut settings (D.content disk).seen (layout_of replica.log.table)) }
         ensures up { IfOk result (λ replica. replica.down ≡ false) }
         ensures settings { IfOk result (λ replica. replica.log.table.settings ≡ settings) }
 
         // Of the disk nothing changes but that a new one is given a manifest.
         ensures during { IfOk result (λ replica. D.tells → ChangesBy (OpensLog settings) (D.content disk) (D.content replica.log.disk)) }
         ensures during_err { IfErr result (λ refusal. D.tells → ChangesBy (OpensLog settings) (D.content disk) (D.content refusal.1)) }
-        ensures outside { IfOk result (λ replica. D.tells → ChangesIn settings.segment 0 (D.content disk).seen (D.content replica.log.disk).seen) }
-        ensures outside_err { IfErr result (λ refusal. D.tells → ChangesIn settings.segment 0 (D.content disk).seen (D.content refusal.1).seen) }
+        ensures opens { IfOk result (λ replica. D.tells → OpensLog settings (D.content disk).seen (D.content replica.log.disk).seen) }
+        ensures opens_err { IfErr result (λ refusal. D.tells → OpensLog settings (D.content disk).seen (D.content refusal.1).seen) }
         ensures kept { IfOk result (λ replica. D.tells → ((cell_at 0 (D.content disk).seen).value ≡ None → ⊥) → (D.content replica.log.disk).seen ≡ (D.content disk).seen) }
         ensures kept_err { IfErr result (λ refusal. D.tells → ((cell_at 0 (D.content disk).seen).value ≡ None → ⊥) → (D.content refusal.1).seen ≡ (D.content disk).seen) }
         ensures only { IfOk result (λ replica. D.tells → Only (D.content replica.log.disk)) }

@@ -10,7 +10,8 @@ ghost use Rattle.msg_format.specs.declared.record.Record.TheVariants as written;
 ghost use Rattle.msg_format.specs.Records.{IsRecord, lsn_of, record_size, id_of, head_of, is_gone};
 ghost use Rattle.part_log.specs.Records.{Placed, records_of};
 ghost use Rattle.part_log.specs.Images.{PutsLast};
-ghost use Rattle.part_log.specs.Log.{AllVisible, IsLog, IsTable, is_full, target_of};
+ghost use Rattle.part_log.specs.Layout.{packed_with};
+ghost use Rattle.part_log.specs.Log.{AllVisible, IsLog, IsTable, is_full, layout_of, target_of};
 ghost use Rattle.replica_core.specs.Index.{spot_in, spot_for};
 ghost use Rattle.replica_core.specs.Maps.{JoinsCell, MayCome, cell_of, with_joined};
 ghost use Rattle.replica_core.specs.State.{Writes, put_by};
@@ -54,6 +55,7 @@ fn put_noted<D: Disk>(
     ensures good { OnOk result (IsTable log.new.table) }
     ensures grows { OnOk result (log.new.table.end ≡ log.old.table.end + 1) }
     ensures same_end { OnErr result (log.new.table.end ≡ log.old.table.end) }
+    ensures layout { OnOk result (layout_of log.new.table ≡ packed_with log.old.table.settings (layout_of log.old.table) (record_size entry.now)) }
 
     ensures full { IsErrOf result LogFault.Full → is_full log.old.table (record_size entry.now) ≡ true }
     ensures full_only { is_full log.old.table (record_size entry.now) ≡ true → IsErrOf result LogFault.Full ⊎ IsErrOf result LogFault.Memory }

@@ -33,7 +33,7 @@ returns-in-Ok-index_of-clause-cells g c = λ t.
     record { records = records_of found.0; stands = found.2; tidy = indexed.tidy; give = its_cells c.in-Ok.opened.0.table (g.D.Disk.content c.in-Ok.opened.0.disk) c.in-Ok-index_of.index.entries c.in-Ok.ensures.table.0 indexed }
 
 pub returns-clause-kept_err : goal.returns-clause-kept_err
-returns-clause-kept_err g c = λ t some. ap (λ (d : g.row.D.Denot). (g.D.Disk.content d).seen) c.close.ensures ∙ c.in-Ok.ensures.kept t some
+returns-clause-kept_err g c = λ t some. ap (λ (d : g.row.D.Denot). (g.D.Disk.content d).seen) c.close.ensures.disk ∙ c.in-Ok.ensures.kept t some
 
 pub returns-in-Ok-index_of-clause-again : goal.returns-in-Ok-index_of-clause-again
 returns-in-Ok-index_of-clause-again g c = λ t cells end stands.
