@@ -16,12 +16,15 @@ use Rattle.cell_model.specs.Pages.{IsEntryOf, PagesCells, SaysGone}
 use Rattle.disk_core.specs.Content.{Content}
 use Rattle.disk_core.proofs.Changes.{image_from}
 use Rattle.log_manifest.specs.declared.manifest.LogSettings.{LogSettings}
+use Rattle.part_log.specs.Layout.{Layout}
+use Rattle.part_log.specs.Log.{layout_of}
 use Rattle.replica_core.specs.Maps.{JoinsCell, StandsForCells, cell_for, is_same, with_joined}
-use Rattle.replica_core.specs.State.{GoesDown, IsAsked, ReplicaState}
+use Rattle.replica_core.specs.State.{GoesDown, IsAsked, IsPacked, ReplicaState, packed_by}
 use Rattle.replica_core.proofs.Maps.{join_absent}
+use Rattle.replica_core.proofs.Packing.{asked_layout, asked_packed}
 use Rattle.world_model.specs.World.{arriving_change, same_id}
 use Rattle.world_model.proofs.CellLaws.{same_id_true}
-use Rattle.lab_nodes.specs.Holding.{AllStandEither, HoldsOpen, HoldsPlace, HoldsUp, StandsEither, settled}
+use Rattle.lab_nodes.specs.Holding.{AllStandEither, LogHasLayout, HoldsOpen, HoldsPlace, HoldsUp, PlaceHasLayout, StandsEither, settled}
 use Rattle.lab_nodes.specs.Nodes.{AsksReplica, HoldsSome}
 use Rattle.lab_nodes.specs.Spots.{DiskFailed}
 use Rattle.lab_nodes.proofs.Holding.{same_stands, settled_sure}
@@ -117,6 +120,15 @@ module _ {D : Type 0} (content : D → Content) (settings : LogSettings) where
       let one = holds c image in
       record { landed = one.landed; end = one.end; stands = same_stands settings c (settled one.landed f None) (settled one.landed h None) one.end (λ id. settled_sure one.landed h id ∙ same id ∙ sym (settled_sure one.landed f id)) one.stands })
   place_same None None f h same holds = λ id. same id ∙ holds id
+
+-- what is said of the settings, the layout and a cell of a replica is said of those of its place
+of_place : {D : Type 0} (content : D → Content) (settings : LogSettings) (replica : ReplicaState D) (cells : BlobId → Cell) (layout : Layout) (id : BlobId) (P : LogSettings → Layout → Cell → Type 0)
+    → HoldsOpen content settings replica.down replica cells None → LogHasLayout settings replica layout → P replica.log.table.settings (layout_of replica.log.table) (cell_in replica.cells id) → P settings layout (cells id)
+of_place content settings replica cells layout id P holds log said =
+    let up = subst (λ (b : Bool). HoldsOpen content settings b replica cells None) log.up holds in
+    subst (λ (s : LogSettings). P s layout (cells id)) log.named
+    (subst (λ (l : Layout). P replica.log.table.settings l (cells id)) log.is
+    (subst (λ (c : Cell). P replica.log.table.settings (layout_of replica.log.table) c) (up.held id) said))
 
 -- what an ask joins to the cells of its place
 abbrev pub landed_cells : (BlobId → Cell) → Ask → Reply → BlobId → Cell
@@ -221,6 +233,27 @@ module _ {D : Type 0} (tells : Type 0) (content : D → Content) (size faults : 
           let same : after ≡ replica = asked.unchanged said in
           place_same content settings (Some after) home cells (landed_cells cells ask reply) (λ id. nothing_landed cells ask reply id (ap (λ (r : Reply). landed ask r) said))
           (subst (λ (r : ReplicaState D). HoldsOpen content settings r.down r cells None) (sym same) (subst (λ (b : Bool). HoldsOpen content settings b replica cells None) (sym is) all))
+
+  -- it is full exactly where its record has no place
+  pub asks_packed : (settings : LogSettings) (old new : Option (ReplicaState D)) (home : Option D) (cells : BlobId → Cell) (layout : Layout) → AsksReplica tells content size faults old ask reply new → tells → is_some old ≡ true
+      → HoldsPlace content settings old home cells None → PlaceHasLayout content settings old home layout → IsPacked settings layout (cells (id_of ask)) ask reply
+  asks_packed settings None new home cells layout asked t some holds laid = absurd (cc some)
+  asks_packed settings (Some replica) None home cells layout asked t some holds laid = absurd asked
+  asks_packed settings (Some replica) (Some after) home cells layout asked t some holds laid =
+      of_place content settings replica cells layout (id_of ask) (λ s l c. IsPacked s l c ask reply) holds laid (asked_packed tells content size faults replica ask reply after asked t laid.up)
+
+  -- a record that is put is packed behind the others
+  pub asks_layout : (settings : LogSettings) (old new : Option (ReplicaState D)) (home : Option D) (cells : BlobId → Cell) (layout : Layout) → AsksReplica tells content size faults old ask reply new → tells → reply ≢ Reply.Fault
+      → HoldsPlace content settings old home cells None → PlaceHasLayout content settings old home layout → PlaceHasLayout content settings new home (packed_by settings layout (cells (id_of ask)) ask reply)
+  asks_layout settings None new home cells layout asked t calm holds laid =
+      subst (λ (r : Reply). PlaceHasLayout content settings new home (packed_by settings layout (cells (id_of ask)) ask r)) (sym asked.0)
+      (subst (λ (s : Option (ReplicaState D)). PlaceHasLayout content settings s home layout) (sym asked.1) laid)
+  asks_layout settings (Some replica) None home cells layout asked t calm holds laid = absurd asked
+  asks_layout settings (Some replica) (Some after) home cells layout asked t calm holds laid = record {
+    up = stays_up reply replica.down after.down asked.down calm ∙ laid.up;
+    named = asked.settings ∙ laid.named;
+    is = of_place content settings replica cells layout (id_of ask) (λ s l c. layout_of after.log.table ≡ packed_by s l c ask reply) holds laid (asked_layout tells content size faults replica ask reply after asked t laid.up calm);
+  }
 
   -- after a fault the disk holds the cells from before, or those with what the ask brings
   fault_stands : (settings : LogSettings) (replica after : ReplicaState D) (cells : BlobId → Cell) → IsAsked tells content size faults replica ask reply after → tells → replica.down ≡ false → HoldsUp settings replica cells None

@@ -10,16 +10,20 @@ use Rattle.world_model.specs.Shape.{IsShape}
 use Rattle.world_model.specs.World.{Cells}
 use Rattle.lab_nodes.specs.declared.places.Which.{Which}
 use Rattle.lab_nodes.specs.Holding.{settings_of}
-use Rattle.lab_nodes.specs.Nodes.{Holds, HoldsAt, HoldsSome, IsFor, IsOpen, IsOutAs, NodesState, OnlyOwnOut, has_replica, replica_in}
+use Rattle.lab_nodes.specs.Layouts.{HasLayoutAt, HaveLayouts, Layouts}
+use Rattle.lab_nodes.specs.Nodes.{AllTidy, Holds, HoldsAt, HoldsSome, IsFor, IsOpen, IsOutAs, NodesState, OnlyOwnOut, has_replica, replica_in}
 use Rattle.lab_nodes.specs.Spots.{AreOut, RestStays, StartsSpot, StaysClosed, node_at, partition_at, slot_at, spot_at}
 use Rattle.lab_nodes.specs.Starting.{AreEmpty, FirstChange, StartsSlot, is_due}
 use Rattle.lab_nodes.proofs.Placing.{slot_here, slot_out, where_is}
-use Rattle.lab_nodes.proofs.Starting.{started_open, started_out, started_places, started_up, stopped_outs, stopped_places, stopped_slot}
+use Rattle.lab_nodes.proofs.Starting.{started_layouts, started_open, started_out, started_places, started_tidy, started_up, stopped_layouts, stopped_outs, stopped_places, stopped_slot, stopped_tidy}
 
 -- nodes that were never opened
 module _ {B D : Type 0} (content : D → Content) (home : B → Home D) (out : B → Out) (nodes : NodesState B D) (shut : nodes.shape ≡ None) where
   closed_places : (shape : Shape) (folder : List ℕ) (cells : Cells) → Holds content home shape folder cells nodes → (n p : ℕ) → HoldsAt content home (has_replica shape n p) (settings_of shape) None (home nodes.bays folder n p) (cells n p)
   closed_places shape folder cells holds = subst (λ (o : Option Shape). (n p : ℕ) → HoldsAt content home (has_replica shape n p) (settings_of shape) (replica_in o nodes.slots n p) (home nodes.bays folder n p) (cells n p)) shut holds.places
+
+  closed_layouts : (shape : Shape) (folder : List ℕ) (layouts : Layouts) → HaveLayouts content home shape folder layouts nodes → (n p : ℕ) → HasLayoutAt content (has_replica shape n p) (settings_of shape) None (home nodes.bays folder n p) (layouts n p)
+  closed_layouts shape folder layouts have = subst (λ (o : Option Shape). (n p : ℕ) → HasLayoutAt content (has_replica shape n p) (settings_of shape) (replica_in o nodes.slots n p) (home nodes.bays folder n p) (layouts n p)) shut have.places
 
   closed_outs : (before : Out) → OnlyOwnOut out before nodes → (n p : ℕ) → out nodes.bays n p ≡ before n p
   closed_outs before own = subst (λ (o : Option Shape). (n p : ℕ) → IsOutAs (is_some (replica_in o nodes.slots n p)) nodes.folder (before n p) (out nodes.bays n p)) shut own
@@ -29,6 +33,12 @@ module _ {B D : Type 0} (content : D → Content) (home : B → Home D) (out : B
   holds_closed shape folder cells new still places = record {
     named = subst (λ (o : Option Shape). IsFor shape folder o new.folder) (sym still) tt;
     places = subst (λ (o : Option Shape). (n p : ℕ) → HoldsAt content home (has_replica shape n p) (settings_of shape) (replica_in o new.slots n p) (home new.bays folder n p) (cells n p)) (sym still) places;
+  }
+
+  have_closed : (shape : Shape) (folder : List ℕ) (layouts : Layouts) (new : NodesState B D) → new.shape ≡ None → ((n p : ℕ) → HasLayoutAt content (has_replica shape n p) (settings_of shape) None (home new.bays folder n p) (layouts n p)) → HaveLayouts content home shape folder layouts new
+  have_closed shape folder layouts new still places = record {
+    named = subst (λ (o : Option Shape). IsFor shape folder o new.folder) (sym still) tt;
+    places = subst (λ (o : Option Shape). (n p : ℕ) → HasLayoutAt content (has_replica shape n p) (settings_of shape) (replica_in o new.slots n p) (home new.bays folder n p) (layouts n p)) (sym still) places;
   }
 
 -- slots that are empty
@@ -77,6 +87,16 @@ module _ {B D : Type 0} (bays_tell tells : Type 0) (content : D → Content) (si
         (λ n p. subst (λ (s : Option (ReplicaState D)). HoldsAt content home (has_replica shape n p) (settings_of shape) s (home nodes.bays folder n p) (cells n p)) (sym (none_in shape slots none n p)) (closed_places content home out nodes shut shape folder cells holds n p));
   }
 
+  pub opened_layouts : tells → (layouts : Layouts) → HaveLayouts content home shape folder layouts nodes → HaveLayouts content home shape folder layouts (record { shape = Some shape; folder = folder; bays = new_bays; slots = new_slots })
+  opened_layouts t layouts have = record {
+    named = (refl, refl);
+    places = started_layouts bays_tell tells content size home out known Which.All shape folder nodes.bays new_bays slots new_slots ranges long longer all_in outs empty kept starts spots rest t layouts
+        (λ n p. subst (λ (s : Option (ReplicaState D)). HasLayoutAt content (has_replica shape n p) (settings_of shape) s (home nodes.bays folder n p) (layouts n p)) (sym (none_in shape slots none n p)) (closed_layouts content home out nodes shut shape folder layouts have n p));
+  }
+
+  pub opened_tidy : tells → AllTidy content home nodes.bays → AllTidy content home new_bays
+  opened_tidy t tidy = started_tidy bays_tell tells content size home out known Which.All shape folder nodes.bays new_bays slots new_slots ranges long longer all_in outs empty kept starts spots rest t tidy
+
   pub opened_out : bays_tell → (before : Out) → OnlyOwnOut out before nodes → OnlyOwnOut out before (record { shape = Some shape; folder = folder; bays = new_bays; slots = new_slots })
   opened_out t before own =
       started_out bays_tell tells content size home out known Which.All shape folder nodes.bays new_bays slots new_slots ranges long longer all_in outs empty kept starts spots rest t before
@@ -95,6 +115,15 @@ module _ {B D : Type 0} (bays_tell tells : Type 0) (content : D → Content) (si
       subst (λ (s : Option (ReplicaState D)). HoldsAt content home (has_replica shape n p) (settings_of shape) s (home new.bays folder n p) (cells n p)) (stopped_slot shape slots new_slots closed n p ∙ none_in shape slots none n p)
       (stopped_places bays_tell tells content size home out known shape folder nodes.bays new.bays slots new_slots closed closed_spots rest t cells
       (λ m q. subst (λ (s : Option (ReplicaState D)). HoldsAt content home (has_replica shape m q) (settings_of shape) s (home nodes.bays folder m q) (cells m q)) (sym (none_in shape slots none m q)) (closed_places content home out nodes shut shape folder cells holds m q)) n p))
+
+  pub unopened_layouts : tells → (layouts : Layouts) → HaveLayouts content home shape folder layouts nodes → HaveLayouts content home shape folder layouts new
+  unopened_layouts t layouts have = have_closed content home out nodes shut shape folder layouts new still (λ n p.
+      subst (λ (s : Option (ReplicaState D)). HasLayoutAt content (has_replica shape n p) (settings_of shape) s (home new.bays folder n p) (layouts n p)) (stopped_slot shape slots new_slots closed n p ∙ none_in shape slots none n p)
+      (stopped_layouts bays_tell tells content size home out known shape folder nodes.bays new.bays slots new_slots closed closed_spots rest t layouts
+      (λ m q. subst (λ (s : Option (ReplicaState D)). HasLayoutAt content (has_replica shape m q) (settings_of shape) s (home nodes.bays folder m q) (layouts m q)) (sym (none_in shape slots none m q)) (closed_layouts content home out nodes shut shape folder layouts have m q)) n p))
+
+  pub unopened_tidy : tells → AllTidy content home nodes.bays → AllTidy content home new.bays
+  unopened_tidy t tidy = stopped_tidy bays_tell tells content size home out known shape folder nodes.bays new.bays slots new_slots closed closed_spots rest t tidy
 
   pub unopened_out : bays_tell → (before : Out) → OnlyOwnOut out before nodes → OnlyOwnOut out before new
   unopened_out t before own = subst (λ (o : Option Shape). (n p : ℕ) → IsOutAs (is_some (replica_in o new.slots n p)) new.folder (before n p) (out new.bays n p)) (sym still)

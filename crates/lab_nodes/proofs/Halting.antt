@@ -12,12 +12,15 @@ use Rattle.replica_core.specs.State.{ReplicaState}
 use Rattle.world_model.specs.declared.shape.Shape.{Shape}
 use Rattle.world_model.specs.World.{Cells, Change}
 use Rattle.lab_nodes.specs.declared.places.Which.{Which}
-use Rattle.lab_nodes.specs.Holding.{HoldsPlace, settings_of}
-use Rattle.lab_nodes.specs.Nodes.{Holds, HoldsAt, IsOpen, IsOutAs, OnlyOwnOut, has_replica, replica_in}
-use Rattle.lab_nodes.specs.Spots.{GoesHome, HaltsSpot, RestStays, Spot, is_meant, node_at, slot_at, spot_at}
+use Rattle.lab_nodes.specs.Holding.{HoldsPlace, PlaceHasLayout, settings_of}
+use Rattle.lab_nodes.specs.Layouts.{HasLayoutAt, Layouts}
+use Rattle.lab_nodes.specs.Nodes.{AllTidy, Holds, HoldsAt, IsOpen, IsOutAs, OnlyOwnOut, has_replica, replica_in}
+use Rattle.lab_nodes.specs.Spots.{GoesHome, HaltsSpot, KeepsLayout, RestStays, Spot, WentHome, is_meant, node_at, slot_at, spot_at}
 use Rattle.lab_nodes.specs.Starting.{FirstChange, HaltsSlot}
 use Rattle.lab_nodes.proofs.Placing.{slot_here, slot_out, view, view_here, where_is}
+use Rattle.lab_nodes.proofs.Packing.{PlacesHaveLayouts}
 use Rattle.lab_nodes.proofs.Sending.{same_spot}
+use Rattle.lab_nodes.proofs.Tidy.{all_tidy, halts_tidy}
 use Rattle.lab_nodes.proofs.Walking.{slot_past}
 
 and_true : (b : Bool) → (b && true) ≡ b
@@ -51,7 +54,20 @@ module _ {D : Type 0} (tells : Type 0) (content : D → Content) (size : D → �
     where
       go : (s : Option (ReplicaState D)) → GoesHome tells content size stops s old new → HoldsPlace content settings new.slot new.home cells doubt
       go None same = subst (λ (s : Spot D). HoldsPlace content settings s.slot s.home cells doubt) (sym same) holds
-      go (Some replica) went = went.1 t settings cells doubt holds
+      go (Some replica) went = (went.1 t settings).0 cells doubt holds
+
+  pub halts_keeps_layout : (settings : LogSettings) (meant : Bool) (old new : Spot D) → HaltsSpot tells content size meant stops old new → tells → KeepsLayout tells content size settings old new
+  halts_keeps_layout settings false old new same t layout laid = subst (λ (s : Spot D). PlaceHasLayout content settings s.slot s.home layout) (sym same) laid
+  halts_keeps_layout settings true old new goes t layout laid = go old.slot goes
+    where
+      go : (s : Option (ReplicaState D)) → GoesHome tells content size stops s old new → PlaceHasLayout content settings new.slot new.home layout
+      go None same = subst (λ (s : Spot D). PlaceHasLayout content settings s.slot s.home layout) (sym same) laid
+      go (Some replica) went = (went.1 t settings).1 layout laid
+
+  -- a replica that was open went home
+  pub halts_went : (replica : ReplicaState D) (meant : Bool) (old new : Spot D) → HaltsSpot tells content size meant stops old new → meant ≡ true → old.slot ≡ Some replica → WentHome tells content size stops replica new
+  halts_went replica false old new same is stood = absurd (cc is)
+  halts_went replica true old new goes is stood = (subst (λ (s : Option (ReplicaState D)). GoesHome tells content size stops s old new) stood goes).0
 
   -- where a replica is open still, nothing was done
   pub halts_open : (meant : Bool) (old new : Spot D) → HaltsSpot tells content size meant stops old new → IsSome new.slot → new ≡ old
@@ -160,6 +176,28 @@ module _ {B D : Type 0} (bays_tell tells : Type 0) (content : D → Content) (si
       go : (due : Bool) → HoldsAt content home due (settings_of shape) (replica_in (Some shape) slots n p) (home bays folder n p) (cells n p) → HoldsAt content home due (settings_of shape) (replica_in (Some shape) new_slots n p) (home new_bays folder n p) (cells n p)
       go false none = none
       go true held = halts_keeps tells content size stops (settings_of shape) (is_meant which n) (view shape slots folder (home bays) (out bays) n p) (view shape new_slots folder (home new_bays) (out new_bays) n p) (halted_spot (known t) n p) t (cells n p) None held
+
+  -- their layouts stay
+  pub halted_layouts : tells → (layouts : Layouts) → PlacesHaveLayouts content home shape folder bays slots layouts → PlacesHaveLayouts content home shape folder new_bays new_slots layouts
+  halted_layouts t layouts laid n p = go (has_replica shape n p) (laid n p)
+    where
+      go : (due : Bool) → HasLayoutAt content due (settings_of shape) (replica_in (Some shape) slots n p) (home bays folder n p) (layouts n p) → HasLayoutAt content due (settings_of shape) (replica_in (Some shape) new_slots n p) (home new_bays folder n p) (layouts n p)
+      go false none = none
+      go true here = halts_keeps_layout tells content size stops (settings_of shape) (is_meant which n) (view shape slots folder (home bays) (out bays) n p) (view shape new_slots folder (home new_bays) (out new_bays) n p) (halted_spot (known t) n p) t (layouts n p) here
+
+  -- the disks at home are those of tidy logs
+  pub halted_tidy : tells → AllTidy content home bays → AllTidy content home new_bays
+  halted_tidy t tidy = all_tidy tells content size home out shape folder bays new_bays (rest (known t)) (λ k.
+      halts_tidy tells content size stops (settings_of shape) (is_meant which (node_at shape.partitions k)) (spot_at shape.partitions folder slots (home bays) (out bays) k) (spot_at shape.partitions folder new_slots (home new_bays) (out new_bays) k) (each_spot (known t) k)
+      (λ some. halted_open.places t k (it.due k some))) tidy
+
+  -- a replica that was open went home
+  pub halted_went : bays_tell → (n p : ℕ) (replica : ReplicaState D) → is_meant which n ≡ true → replica_in (Some shape) slots n p ≡ Some replica
+      → WentHome tells content size stops replica (record { slot = None; home = home new_bays folder n p; out = out new_bays n p })
+  halted_went t n p replica meant stood =
+      let none = subst (λ (b : Bool). HaltsSlot b (replica_in (Some shape) slots n p) (replica_in (Some shape) new_slots n p)) meant (halted_slot n p) in
+      subst (λ (s : Option (ReplicaState D)). WentHome tells content size stops replica (record { slot = s; home = home new_bays folder n p; out = out new_bays n p })) none
+      (halts_went tells content size stops replica (is_meant which n) (view shape slots folder (home bays) (out bays) n p) (view shape new_slots folder (home new_bays) (out new_bays) n p) (halted_spot t n p) meant stood)
 
   pub halted_out : bays_tell → (before : Out) → OnlyOwnOut out before (record { shape = Some shape; folder = folder; bays = bays; slots = slots }) → OnlyOwnOut out before (record { shape = Some shape; folder = folder; bays = new_bays; slots = new_slots })
   halted_out t before own n p = halts_out tells content size stops folder (before n p) (is_meant which n) (view shape slots folder (home bays) (out bays) n p) (view shape new_slots folder (home new_bays) (out new_bays) n p) (halted_spot t n p) (own n p)

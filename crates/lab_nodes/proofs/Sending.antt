@@ -5,11 +5,14 @@ use Rattle.cell_model.specs.declared.cell.Cell.{Cell}
 use Rattle.disk_core.specs.Content.{Content}
 use Rattle.disk_core.specs.Homes.{Home, Out, PutsHome, SameContent}
 use Rattle.log_manifest.specs.declared.manifest.LogSettings.{LogSettings}
+use Rattle.part_log.specs.Images.{IsLaidOut}
+use Rattle.part_log.specs.Layout.{Layout}
 use Rattle.replica_core.specs.State.{ReplicaState}
 use Rattle.world_model.specs.World.{Change}
-use Rattle.lab_nodes.specs.Holding.{AllStandEither, HoldsOpen, HoldsPlace, Left}
+use Rattle.lab_nodes.specs.Holding.{AllStandEither, LogHasLayout, HoldsOpen, HoldsPlace, Left, PlaceHasLayout}
 use Rattle.lab_nodes.specs.Spots.{GoesHome, Spot}
 use Rattle.lab_nodes.proofs.Holding.{image_back, place_kept}
+use Rattle.lab_nodes.proofs.Packing.{place_laid}
 
 abbrev spot : {D : Type 0} → Option (ReplicaState D) → Option D → Option (List ℕ) → Spot D
 spot slot home out = record { slot = slot; home = home; out = out }
@@ -38,8 +41,9 @@ module _ {D : Type 0} (tells : Type 0) (content : D → Content) (size : D → �
       → slot ≡ Some replica → new_slot ≡ None
       → PutsHome tells content size folder node partition disk home out new_home new_out → size disk ≡ size replica.log.disk → (tells → Left content stops replica.log.disk disk)
       → (tells → (settings : LogSettings) (cells : BlobId → Cell) (doubt : Option Change) → HoldsOpen content settings replica.down replica cells doubt → AllStandEither settings (content disk) cells doubt)
+      → (tells → (settings : LogSettings) (layout : Layout) → LogHasLayout settings replica layout → IsLaidOut settings (content disk).seen layout)
       → GoesHome tells content size stops slot (record { slot = slot; home = home folder node partition; out = out node partition }) (record { slot = new_slot; home = new_home folder node partition; out = new_out node partition })
-  sent stops folder node partition replica disk home out new_home new_out slot new_slot is gone puts bytes left stands =
+  sent stops folder node partition replica disk home out new_home new_out slot new_slot is gone puts bytes left stands laid =
       subst (λ (s : Option (ReplicaState D)). GoesHome tells content size stops s (record { slot = s; home = home folder node partition; out = out node partition }) (record { slot = new_slot; home = new_home folder node partition; out = new_out node partition })) (sym is) (
         record {
           kept = puts.kept;
@@ -47,7 +51,11 @@ module _ {D : Type 0} (tells : Type 0) (content : D → Content) (size : D → �
           bytes = puts.same.bytes ∙ bytes;
           left = λ t. left_same content stops replica.log.disk disk puts.kept (left t) (puts.same.told t);
         },
-        (λ t settings cells doubt holds. subst (λ (s : Option (ReplicaState D)). HoldsPlace content settings s (new_home folder node partition) cells doubt) (sym gone)
-            (place_kept content settings replica (home folder node partition) (new_home folder node partition) disk puts.kept cells doubt puts.at_home
-            (image_back (content disk) (content puts.kept) (puts.same.told t)) (stands t settings cells doubt) holds)),
+        (λ t settings. (
+          (λ cells doubt holds. subst (λ (s : Option (ReplicaState D)). HoldsPlace content settings s (new_home folder node partition) cells doubt) (sym gone)
+              (place_kept content settings replica (home folder node partition) (new_home folder node partition) disk puts.kept cells doubt puts.at_home
+              (image_back (content disk) (content puts.kept) (puts.same.told t)) (stands t settings cells doubt) holds)),
+          (λ layout log. subst (λ (s : Option (ReplicaState D)). PlaceHasLayout content settings s (new_home folder node partition) layout) (sym gone)
+              (place_laid content settings disk puts.kept (new_home folder node partition) layout puts.at_home (puts.same.told t).seen (laid t settings layout log))),
+        )),
       )

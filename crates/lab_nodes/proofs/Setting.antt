@@ -13,18 +13,22 @@ use Rattle.cell_model.specs.Cells.{join}
 use Rattle.cell_model.specs.Pages.{PagesCells}
 use Rattle.disk_core.specs.Content.{Content}
 use Rattle.disk_core.specs.Homes.{Home, Out}
-use Rattle.replica_core.specs.State.{ReplicaState}
+use Rattle.log_manifest.specs.declared.manifest.LogSettings.{LogSettings}
+use Rattle.part_log.specs.Layout.{Layout}
+use Rattle.replica_core.specs.State.{IsPacked, ReplicaState, packed_by}
 use Rattle.replica_core.proofs.Maps.{join_absent}
 use Rattle.world_model.specs.declared.shape.Shape.{Shape}
 use Rattle.world_model.specs.World.{Cells, same_id}
 use Rattle.world_model.proofs.CellLaws.{number_true, same_number}
 use Rattle.lab_nodes.specs.declared.places.Which.{Which}
-use Rattle.lab_nodes.specs.Holding.{settings_of}
+use Rattle.lab_nodes.specs.Holding.{PlaceHasLayout, settings_of}
+use Rattle.lab_nodes.specs.Layouts.{HasLayoutAt, HaveLayouts, Layouts, asked_layouts}
 use Rattle.lab_nodes.specs.Nodes.{AsksReplica, Holds, HoldsAt, HoldsSome, IsOpen, NodesState, asked_cells, has_replica, replica_in}
 use Rattle.lab_nodes.specs.Spots.{node_at, partition_at, place_of, slot_at}
 use Rattle.lab_nodes.specs.Starting.{is_due}
-use Rattle.lab_nodes.proofs.Asking.{absent_either, asks_answered, asks_holds, asks_none, asks_pages, asks_some_held, asks_up, landed_cells, place_same}
+use Rattle.lab_nodes.proofs.Asking.{absent_either, asks_answered, asks_holds, asks_layout, asks_none, asks_packed, asks_pages, asks_some_held, asks_up, landed_cells, place_same}
 use Rattle.lab_nodes.proofs.Halting.{PlacesHold}
+use Rattle.lab_nodes.proofs.Packing.{PlacesHaveLayouts}
 use Rattle.lab_nodes.proofs.Placing.{Inside, has_here, inside, slot_here, slot_out, where_is}
 use Rattle.lab_nodes.proofs.Walking.{slot_set, slot_set_other}
 
@@ -58,6 +62,28 @@ pub asked_none : (cells : Cells) (node partition : ℕ) (ask : Ask) (n p : ℕ) 
 asked_none cells node partition ask n p id =
     ap (λ (c : Cell). join (cells n p id) c) (absent_either ((n == node) && (p == partition) && same_id id (id_of ask))) ∙ join_absent (cells n p id)
 
+-- the layout of another place stays
+layout_apart : (settings : LogSettings) (cells : Cells) (layouts : Layouts) (node partition : ℕ) (ask : Ask) (reply : Reply) (n p : ℕ) → (n ≢ node) ⊎ (p ≢ partition) → asked_layouts settings cells layouts node partition ask reply n p ≡ layouts n p
+layout_apart settings cells layouts node partition ask reply n p apart =
+    ap (λ (b : Bool). cond b (packed_by settings (layouts n p) (cells n p (id_of ask)) ask reply) (layouts n p)) (go (n == node) refl (p == partition) refl)
+  where
+    go : (a : Bool) → (n == node) ≡ a → (b : Bool) → (p == partition) ≡ b → ((n == node) && (p == partition)) ≡ false
+    go false one b two = ap (λ (a : Bool). a && (p == partition)) one
+    go true one false two = ap (λ (a : Bool). a && (p == partition)) one ∙ two
+    go true one true two = absurd (⊎_elim (λ (other : n ≢ node). other (number_true n node one)) (λ (other : p ≢ partition). other (number_true p partition two)) apart)
+
+layout_here : (settings : LogSettings) (cells : Cells) (layouts : Layouts) (node partition : ℕ) (ask : Ask) (reply : Reply) → asked_layouts settings cells layouts node partition ask reply node partition ≡ packed_by settings (layouts node partition) (cells node partition (id_of ask)) ask reply
+layout_here settings cells layouts node partition ask reply =
+    ap (λ (b : Bool). cond b (packed_by settings (layouts node partition) (cells node partition (id_of ask)) ask reply) (layouts node partition)) (ap (λ (a : Bool). a && (partition == partition)) (same_number node) ∙ same_number partition)
+
+-- where no replica is asked nothing is packed
+layout_none : (settings : LogSettings) (cells : Cells) (layouts : Layouts) (node partition : ℕ) (ask : Ask) (n p : ℕ) → asked_layouts settings cells layouts node partition ask Reply.NoPartition n p ≡ layouts n p
+layout_none settings cells layouts node partition ask n p = go ((n == node) && (p == partition))
+  where
+    go : (b : Bool) → cond b (layouts n p) (layouts n p) ≡ layouts n p
+    go true = refl
+    go false = refl
+
 module _ {B D : Type 0} (content : D → Content) (home : B → Home D) (shape : Shape) where
   -- the cells of a node and a partition under another name
   pub at_same : (due : Bool) (slot : Option (ReplicaState D)) (kept : Option D) (f h : BlobId → Cell) → ((id : BlobId) → h id ≡ f id) → HoldsAt content home due (settings_of shape) slot kept f → HoldsAt content home due (settings_of shape) slot kept h
@@ -70,6 +96,13 @@ pub unasked_holds : {B D : Type 0} (content : D → Content) (home : B → Home 
 unasked_holds content home shape folder cells node partition ask nodes holds = record {
   named = holds.named;
   places = λ n p. at_same content home shape (has_replica shape n p) (replica_in nodes.shape nodes.slots n p) (home nodes.bays folder n p) (cells n p) (asked_cells cells node partition ask Reply.NoPartition n p) (λ id. asked_none cells node partition ask n p id) (holds.places n p);
+}
+
+pub unasked_layouts : {B D : Type 0} (content : D → Content) (home : B → Home D) (shape : Shape) (folder : List ℕ) (cells : Cells) (layouts : Layouts) (node partition : ℕ) (ask : Ask) (nodes : NodesState B D) → HaveLayouts content home shape folder layouts nodes
+    → HaveLayouts content home shape folder (asked_layouts (settings_of shape) cells layouts node partition ask Reply.NoPartition) nodes
+unasked_layouts content home shape folder cells layouts node partition ask nodes have = record {
+  named = have.named;
+  places = λ n p. subst (λ (l : Layout). HasLayoutAt content (has_replica shape n p) (settings_of shape) (replica_in nodes.shape nodes.slots n p) (home nodes.bays folder n p) l) (sym (layout_none (settings_of shape) cells layouts node partition ask n p)) (have.places n p);
 }
 
 module _ {B D : Type 0} (bays_tell tells : Type 0) (content : D → Content) (size faults : D → ℕ) (home : B → Home D) (out : B → Out) (shape : Shape) (folder : List ℕ) (bays : B) (slots : List (Option (ReplicaState D))) (node partition place : ℕ) (x : Option (ReplicaState D)) (ask : Ask) (reply : Reply)
@@ -175,4 +208,35 @@ module _ {B D : Type 0} (bays_tell tells : Type 0) (content : D → Content) (si
     | inr apart ↦
         subst (λ (s : Option (ReplicaState D)). HoldsAt content home (has_replica shape n p) (settings_of shape) s (home bays folder n p) (asked_cells cells node partition ask reply n p)) (sym (asked_others n p apart))
         (at_same content home shape (has_replica shape n p) (replica_in (Some shape) slots n p) (home bays folder n p) (cells n p) (asked_cells cells node partition ask reply n p) (λ id. asked_apart cells node partition ask reply n p id apart) (holds n p))
+  ]
+
+  -- it is full exactly where its record has no place
+  pub asked_is_packed : tells → (cells : Cells) (layouts : Layouts) → PlacesHold content home shape folder bays slots cells → PlacesHaveLayouts content home shape folder bays slots layouts → is_some (replica_in (Some shape) slots node partition) ≡ true
+      → IsPacked (settings_of shape) (layouts node partition) (cells node partition (id_of ask)) ask reply
+  asked_is_packed t cells layouts holds laid some =
+      asks_packed tells content size faults ask reply (settings_of shape) (replica_in (Some shape) slots node partition) (replica_in (Some shape) (slice_set slots place x) node partition) (home bays folder node partition) (cells node partition) (layouts node partition) asked_state t some
+      (subst (λ (b : Bool). HoldsAt content home b (settings_of shape) (replica_in (Some shape) slots node partition) (home bays folder node partition) (cells node partition)) (due_up some) (holds node partition))
+      (subst (λ (b : Bool). HasLayoutAt content b (settings_of shape) (replica_in (Some shape) slots node partition) (home bays folder node partition) (layouts node partition)) (due_up some) (laid node partition))
+
+  laid_here : tells → reply ≢ Reply.Fault → (cells : Cells) (layouts : Layouts) → PlacesHold content home shape folder bays slots cells → PlacesHaveLayouts content home shape folder bays slots layouts
+      → HasLayoutAt content (has_replica shape node partition) (settings_of shape) (replica_in (Some shape) (slice_set slots place x) node partition) (home bays folder node partition) (asked_layouts (settings_of shape) cells layouts node partition ask reply node partition)
+  laid_here t calm cells layouts holds laid = go (has_replica shape node partition) (holds node partition) (laid node partition)
+    where
+      go : (due : Bool) → HoldsAt content home due (settings_of shape) (replica_in (Some shape) slots node partition) (home bays folder node partition) (cells node partition) → HasLayoutAt content due (settings_of shape) (replica_in (Some shape) slots node partition) (home bays folder node partition) (layouts node partition)
+          → HasLayoutAt content due (settings_of shape) (replica_in (Some shape) (slice_set slots place x) node partition) (home bays folder node partition) (asked_layouts (settings_of shape) cells layouts node partition ask reply node partition)
+      go false held laid = tt
+      go true held laid =
+          subst (λ (l : Layout). PlaceHasLayout content (settings_of shape) (replica_in (Some shape) (slice_set slots place x) node partition) (home bays folder node partition) l) (sym (layout_here (settings_of shape) cells layouts node partition ask reply))
+          (asks_layout tells content size faults ask reply (settings_of shape) (replica_in (Some shape) slots node partition) (replica_in (Some shape) (slice_set slots place x) node partition) (home bays folder node partition) (cells node partition) (layouts node partition) asked_state t calm held laid)
+
+  -- a record that was put is packed behind the others of its place
+  pub asked_laid : tells → reply ≢ Reply.Fault → (cells : Cells) (layouts : Layouts) → PlacesHold content home shape folder bays slots cells → PlacesHaveLayouts content home shape folder bays slots layouts
+      → PlacesHaveLayouts content home shape folder bays (slice_set slots place x) (asked_layouts (settings_of shape) cells layouts node partition ask reply)
+  asked_laid t calm cells layouts holds laid n p = elim (same_or_apart n p node partition) [
+    | inl same ↦
+        let at : ℕ → ℕ → Type 0 = λ k q. HasLayoutAt content (has_replica shape k q) (settings_of shape) (replica_in (Some shape) (slice_set slots place x) k q) (home bays folder k q) (asked_layouts (settings_of shape) cells layouts node partition ask reply k q) in
+        subst (λ (k : ℕ). at k p) (sym same.0) (subst (λ (q : ℕ). at node q) (sym same.1) (laid_here t calm cells layouts holds laid))
+    | inr apart ↦
+        subst (λ (s : Option (ReplicaState D)). HasLayoutAt content (has_replica shape n p) (settings_of shape) s (home bays folder n p) (asked_layouts (settings_of shape) cells layouts node partition ask reply n p)) (sym (asked_others n p apart))
+        (subst (λ (l : Layout). HasLayoutAt content (has_replica shape n p) (settings_of shape) (replica_in (Some shape) slots n p) (home bays folder n p) l) (sym (layout_apart (settings_of shape) cells layouts node partition ask reply n p apart)) (laid n p))
   ]

@@ -10,9 +10,6 @@ use Rattle.cell_model.specs.Cells.{cell_in}
 use Rattle.disk_core.specs.Content.{Content}
 use Rattle.disk_core.specs.Homes.{Home, Out}
 use Rattle.log_manifest.specs.declared.manifest.LogSettings.{LogSettings}
-use Rattle.msg_format.specs.declared.record.Record.{Record}
-use Rattle.part_log.proofs.Meaning.{one_log}
-use Rattle.replica_core.specs.Maps.{AreTidy, HasTidy}
 use Rattle.replica_core.specs.State.{ReplicaState}
 use Rattle.world_model.specs.declared.order.Refusal.{Refusal}
 use Rattle.world_model.specs.declared.shape.Shape.{Shape}
@@ -20,16 +17,19 @@ use Rattle.world_model.proofs.CellLaws.{number_true}
 use Rattle.world_model.specs.Shape.{IsShape}
 use Rattle.world_model.specs.World.{Cells}
 use Rattle.lab_nodes.specs.declared.places.Which.{Which}
-use Rattle.lab_nodes.specs.Holding.{HoldsPlace, settings_of, settled}
-use Rattle.lab_nodes.specs.Nodes.{HoldsAt, HoldsSome, IsOpen, IsOutAs, OnlyOwnOut, has_replica, replica_in}
-use Rattle.lab_nodes.specs.Spots.{AreOut, OpensSpot, RestStays, Spot, StartsSpot, StaysClosed, is_meant, node_at, partition_at, place_of, slot_at, spot_at, stands_on}
+use Rattle.lab_nodes.specs.Holding.{HoldsPlace, PlaceHasLayout, settings_of, settled}
+use Rattle.lab_nodes.specs.Layouts.{HasLayoutAt, Layouts}
+use Rattle.lab_nodes.specs.Nodes.{AllTidy, HoldsAt, HoldsSome, IsOpen, IsOutAs, OnlyOwnOut, has_replica, replica_in}
+use Rattle.lab_nodes.specs.Spots.{AreOut, KeepsLayout, OpensSpot, RestStays, Spot, StartsSpot, StaysClosed, is_meant, node_at, partition_at, place_of, slot_at, spot_at, stands_on}
 use Rattle.lab_nodes.specs.Starting.{AreEmpty, AreTidyAt, FirstChange, IsDueAt, StartsSlot, is_due}
 use Rattle.lab_nodes.proofs.Asking.{place_same}
 use Rattle.lab_nodes.proofs.Halting.{PlacesHold}
 use Rattle.lab_nodes.proofs.Holding.{held_up, opened_settles, settled_sure}
+use Rattle.lab_nodes.proofs.Packing.{PlacesHaveLayouts, opened_log}
 use Rattle.lab_nodes.proofs.Placing.{Outside, due_here, has_out, inside, slot_here, slot_out, undue_past, view, view_here, where_is}
 use Rattle.lab_nodes.proofs.Refusing.{place_again, stays_same}
 use Rattle.lab_nodes.proofs.Sending.{same_spot}
+use Rattle.lab_nodes.proofs.Tidy.{all_tidy, some_tidy, starts_tidy}
 use Rattle.lab_nodes.proofs.Walking.{slot_past}
 
 or_false : (b : Bool) → (b || false) ≡ b
@@ -56,6 +56,11 @@ module _ {D : Type 0} (tells : Type 0) (content : D → Content) (size : D → �
       subst (λ (s : Spot D). HoldsPlace content settings s.slot s.home cells None) (sym opens.is)
       (place_same content settings (Some opens.replica) None (settled settles.0 cells None) cells (λ id. sym (settled_sure settles.0 cells id)) settles.1)
 
+  opens_layout : (old new : Spot D) → tells → old.slot ≡ None → OpensSpot tells content size settings folder old new → KeepsLayout tells content size settings old new
+  opens_layout old new t none opens layout laid =
+      subst (λ (s : Spot D). PlaceHasLayout content settings s.slot s.home layout) (sym opens.is)
+      (opened_log content settings tells old.home opens.replica layout t opens.opened (subst (λ (s : Option (ReplicaState D)). PlaceHasLayout content settings s old.home layout) none laid))
+
   opens_some : (old new : Spot D) → OpensSpot tells content size settings folder old new → HoldsSome content settings new.slot new.home
   opens_some old new opens =
       subst (λ (s : Spot D). HoldsSome content settings s.slot s.home) (sym opens.is) (record {
@@ -69,17 +74,11 @@ module _ {D : Type 0} (tells : Type 0) (content : D → Content) (size : D → �
       let was : old.out ≡ before = subst (λ (s : Option (ReplicaState D)). IsOutAs (is_some s) folder before old.out) none holds in
       subst (λ (s : Spot D). IsOutAs (is_some s.slot) folder before s.out) (sym opens.is) (sym was ∙ opens.was_in, refl)
 
--- a place that holds some cells has a tidy log
-some_tidy : {D : Type 0} (content : D → Content) (settings : LogSettings) (slot : Option (ReplicaState D)) (kept : Option D) (disk : D) → slot ≡ None → kept ≡ Some disk → HoldsSome content settings slot kept → HasTidy settings (content disk).seen
-some_tidy {D} content settings slot kept disk none is some =
-    let all = subst (λ (h : Option D). HoldsPlace content settings None h some.cells some.doubt) is (subst (λ (s : Option (ReplicaState D)). HoldsPlace content settings s kept some.cells some.doubt) none some.holds) in
-    let one = all (content disk).seen (content disk).sees in
-    λ records end stands. subst (λ (l : List Record). AreTidy l) (one_log settings (content disk).seen one.stands.records records one.end end one.stands.stands stands).records one.stands.tidy
-
+-- places that hold some cells have tidy logs
 pub some_are_tidy : {B D : Type 0} (bays_tell tells : Type 0) (content : D → Content) (size : D → ℕ) (home : B → Home D) (out : B → Out) (which : Which) (shape : Shape) (folder : List ℕ) (bays : B) (slots : List (Option (ReplicaState D))) → IsOpen bays_tell tells content home out shape folder bays slots
     → AreEmpty which shape.partitions slots → tells → AreTidyAt tells content size which shape folder (home bays)
 some_are_tidy bays_tell tells content size home out which shape folder bays slots it empty t k due disk is =
-    some_tidy content (settings_of shape) (slot_at slots k) (home bays folder (node_at shape.partitions k) (partition_at shape.partitions k)) disk (empty_slot which shape slots empty k due) is (it.places t k (all_due which shape k due))
+    some_tidy content (settings_of shape) (settings_of shape) (slot_at slots k) (home bays folder (node_at shape.partitions k) (partition_at shape.partitions k)) disk (empty_slot which shape slots empty k due) is (it.places t k (all_due which shape k due))
 
 -- where nothing is due
 undue_out : (which : Which) (shape : Shape) → IsShape shape → (n p : ℕ) → Outside shape n p → (is_meant which n && has_replica shape n p) ≡ false
@@ -185,6 +184,24 @@ module _ {B D : Type 0} (bays_tell tells : Type 0) (content : D → Content) (si
       go false none = none
       go true held = spot (is_meant which n && has_replica shape n p) refl (started_spot (known t) n p) held
 
+  -- their layouts stay
+  pub started_layouts : tells → (layouts : Layouts) → PlacesHaveLayouts content home shape folder bays slots layouts → PlacesHaveLayouts content home shape folder new_bays new_slots layouts
+  started_layouts t layouts laid n p = go (has_replica shape n p) (laid n p)
+    where
+      spot : (b : Bool) → (is_meant which n && has_replica shape n p) ≡ b → StartsSpot tells content size b (settings_of shape) folder (view shape slots folder (home bays) (out bays) n p) (view shape new_slots folder (home new_bays) (out new_bays) n p)
+          → PlaceHasLayout content (settings_of shape) (replica_in (Some shape) slots n p) (home bays folder n p) (layouts n p) → PlaceHasLayout content (settings_of shape) (replica_in (Some shape) new_slots n p) (home new_bays folder n p) (layouts n p)
+      spot false is same here = subst (λ (s : Spot D). PlaceHasLayout content (settings_of shape) s.slot s.home (layouts n p)) (sym same) here
+      spot true is opens here = opens_layout tells content size (settings_of shape) folder (view shape slots folder (home bays) (out bays) n p) (view shape new_slots folder (home new_bays) (out new_bays) n p) t (empty_here n p ((and_parts (is_meant which n) (has_replica shape n p) is).0)) opens (layouts n p) here
+
+      go : (due : Bool) → HasLayoutAt content due (settings_of shape) (replica_in (Some shape) slots n p) (home bays folder n p) (layouts n p) → HasLayoutAt content due (settings_of shape) (replica_in (Some shape) new_slots n p) (home new_bays folder n p) (layouts n p)
+      go false none = none
+      go true here = spot (is_meant which n && has_replica shape n p) refl (started_spot (known t) n p) here
+
+  -- the disks at home are those of tidy logs
+  pub started_tidy : tells → AllTidy content home bays → AllTidy content home new_bays
+  started_tidy t tidy = all_tidy tells content size home out shape folder bays new_bays (rest (known t)) (λ k.
+      starts_tidy tells content size (settings_of shape) folder (is_due which shape k) (spot_at shape.partitions folder slots (home bays) (out bays) k) (spot_at shape.partitions folder new_slots (home new_bays) (out new_bays) k) (each_spot (known t) k)) tidy
+
   pub started_out : bays_tell → (before : Out) → ((n p : ℕ) → IsOutAs (is_some (replica_in (Some shape) slots n p)) folder (before n p) (out bays n p)) → OnlyOwnOut out before (record { shape = Some shape; folder = folder; bays = new_bays; slots = new_slots })
   started_out t before own n p = go (is_meant which n && has_replica shape n p) refl (started_spot t n p)
     where
@@ -266,6 +283,16 @@ module _ {B D : Type 0} (bays_tell tells : Type 0) (content : D → Content) (si
       go : (due : Bool) → HoldsAt content home due (settings_of shape) (replica_in (Some shape) slots n p) (home bays folder n p) (cells n p) → HoldsAt content home due (settings_of shape) (replica_in (Some shape) new_slots n p) (home new_bays folder n p) (cells n p)
       go false none = none
       go true held = (stopped_spot (known t) n p).keeps t (cells n p) None held
+
+  pub stopped_layouts : tells → (layouts : Layouts) → PlacesHaveLayouts content home shape folder bays slots layouts → PlacesHaveLayouts content home shape folder new_bays new_slots layouts
+  stopped_layouts t layouts laid n p = go (has_replica shape n p) (laid n p)
+    where
+      go : (due : Bool) → HasLayoutAt content due (settings_of shape) (replica_in (Some shape) slots n p) (home bays folder n p) (layouts n p) → HasLayoutAt content due (settings_of shape) (replica_in (Some shape) new_slots n p) (home new_bays folder n p) (layouts n p)
+      go false none = none
+      go true here = (stopped_spot (known t) n p).layout t (layouts n p) here
+
+  pub stopped_tidy : tells → AllTidy content home bays → AllTidy content home new_bays
+  stopped_tidy t tidy = all_tidy tells content size home out shape folder bays new_bays (rest (known t)) (λ k. (closed_spots (known t) k).tidy t) tidy
 
   pub stopped_outs : bays_tell → (n p : ℕ) → out new_bays n p ≡ out bays n p
   stopped_outs t n p = (stopped_spot t n p).out

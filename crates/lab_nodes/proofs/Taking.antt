@@ -1,17 +1,17 @@
 -- How the replica of a place is opened, or isn't.
-use Rattle.std.proofs.Common.{◌≡◌, ℕ, List, [], Option, Some, None, replicate, refl, sym, ◌∙◌, subst}
+use Rattle.std.proofs.Common.{◌≡◌, ℕ, List, Option, Some, None, refl, sym, ◌∙◌, subst}
 use Rattle.blob_id.specs.declared.id.BlobId.{BlobId}
 use Rattle.cell_model.specs.declared.cell.Cell.{Cell}
 use Rattle.disk_core.specs.Content.{Content, ChangesBy}
-use Rattle.disk_core.specs.Homes.{Home, Out, OthersStay, PutsHome, TakesOut}
+use Rattle.disk_core.specs.Homes.{Home, Out, OthersStay, PutsHome, Stays, TakesOut}
+use Rattle.gate_slots.specs.Cell.{cell_at}
 use Rattle.log_manifest.specs.declared.manifest.LogSettings.{LogSettings}
 use Rattle.part_log.specs.declared.fault.OpenFault.{OpenFault}
-use Rattle.part_log.specs.Images.{IsDamaged, NamesOther, OpensLog}
+use Rattle.part_log.specs.Images.{IsDamaged, IsLaidOut, NamesOther, OpensLog}
 use Rattle.part_log.specs.Log.{disk_size}
-use Rattle.part_log.proofs.Meaning.{one_log}
-use Rattle.msg_format.specs.declared.record.Record.{Record}
-use Rattle.replica_core.specs.Maps.{AreTidy, HasTidy}
+use Rattle.replica_core.specs.Maps.{HasTidy}
 use Rattle.replica_core.specs.State.{ReplicaState}
+use Rattle.replica_core.proofs.Standing.{opens_tidy}
 use Rattle.world_model.specs.World.{Change}
 use Rattle.lab_nodes.specs.Holding.{AllStandEither, HoldsPlace, IsOpened, found}
 use Rattle.world_model.specs.declared.order.Refusal.{Refusal}
@@ -19,9 +19,11 @@ use Rattle.world_model.specs.declared.order.What.{What}
 use Rattle.lab_nodes.specs.declared.fault.NodesFault.{NodesFault}
 use Rattle.lab_nodes.specs.Faults.{open_fault}
 use Rattle.lab_nodes.specs.Spots.{IsCause, OpensSpot, StaysClosed}
-use Rattle.lab_nodes.proofs.Fresh.{new_stands}
 use Rattle.lab_nodes.proofs.Holding.{either_new, either_opened, either_same, image_back}
+use Rattle.lab_nodes.proofs.Packing.{place_laid}
+use Rattle.lab_nodes.proofs.Refusing.{stays_same}
 use Rattle.lab_nodes.proofs.Sending.{same_spot}
+use Rattle.lab_nodes.proofs.Tidy.{home_tidy, new_tidy}
 
 -- places stay where each of two steps leaves them
 pub others_on : {D : Type 0} (folder : List ℕ) (node partition : ℕ) (home mid_home new_home : Home D) (out mid_out new_out : Out) → OthersStay folder node partition home out mid_home mid_out → OthersStay folder node partition mid_home mid_out new_home new_out → OthersStay folder node partition home out new_home new_out
@@ -29,9 +31,6 @@ others_on folder node partition home mid_home new_home out mid_out new_out one t
   homes = λ f n p apart. two.homes f n p apart ∙ one.homes f n p apart;
   outs = λ n p apart. two.outs n p apart ∙ one.outs n p apart;
 }
-
-new_tidy : (settings : LogSettings) → HasTidy settings (replicate (disk_size settings) 0)
-new_tidy settings = λ records end stands. subst (λ (l : List Record). AreTidy l) (one_log settings (replicate (disk_size settings) 0) [] records 0 end (new_stands settings) stands).records tt
 
 module _ {D : Type 0} (tells : Type 0) (content : D → Content) (size : D → ℕ) (settings : LogSettings) (folder : List ℕ) (node partition : ℕ) (disk : D) (home : Home D) (out : Out) (mid_home : Home D) (mid_out : Out) (takes : TakesOut tells content size folder node partition (disk_size settings) disk home out mid_home mid_out) (t : tells) where
   -- the disk that was taken out has the bytes that the opening finds
@@ -42,12 +41,12 @@ module _ {D : Type 0} (tells : Type 0) (content : D → Content) (size : D → �
       go None is = (takes.fresh is t).zeros
       go (Some kept) is = ((takes.same kept is).told t).seen
 
-  -- and a tidy log
-  pub taken_tidy : ((kept : D) → home folder node partition ≡ Some kept → HasTidy settings (content kept).seen) → HasTidy settings (content disk).seen
-  taken_tidy tidy = subst (λ (l : List ℕ). HasTidy settings l) (sym taken_found) (go (home folder node partition) refl)
+  -- and a tidy log, whatever the settings
+  pub taken_tidy : (other : LogSettings) → ((kept : D) → home folder node partition ≡ Some kept → HasTidy other (content kept).seen) → HasTidy other (content disk).seen
+  taken_tidy other tidy = subst (λ (l : List ℕ). HasTidy other l) (sym taken_found) (go (home folder node partition) refl)
     where
-      go : (h : Option D) → home folder node partition ≡ h → HasTidy settings (found content settings h)
-      go None is = new_tidy settings
+      go : (h : Option D) → home folder node partition ≡ h → HasTidy other (found content settings h)
+      go None is = new_tidy settings other
       go (Some kept) is = tidy kept is
 
   -- what the place holds stands on the disk that was taken out
@@ -70,9 +69,10 @@ module _ {D : Type 0} (tells : Type 0) (content : D → Content) (size : D → �
   }
 
   -- the disk went home again
-  pub goes_back : (left : D) (new_home : Home D) (new_out : Out) → PutsHome tells content size folder node partition left mid_home mid_out new_home new_out → (tells → ChangesBy (OpensLog settings) (content disk) (content left))
+  pub goes_back : (left : D) (new_home : Home D) (new_out : Out) → PutsHome tells content size folder node partition left mid_home mid_out new_home new_out → (tells → ChangesBy (OpensLog settings) (content disk) (content left)) → (tells → OpensLog settings (content disk).seen (content left).seen)
+      → (tells → ((cell_at 0 (content disk).seen).value ≡ None → ⊥) → (content left).seen ≡ (content disk).seen)
       → StaysClosed tells content size settings (record { slot = None; home = home folder node partition; out = out node partition }) (record { slot = None; home = new_home folder node partition; out = new_out node partition })
-  goes_back left new_home new_out puts changes = record {
+  goes_back left new_home new_out puts changes sees unchanged = record {
     slot = refl;
     out = puts.is_in ∙ sym takes.was_in;
     keeps = λ t cells doubt holds.
@@ -80,7 +80,22 @@ module _ {D : Type 0} (tells : Type 0) (content : D → Content) (size : D → �
         (either_same settings (content left) (content puts.kept) cells doubt (image_back (content left) (content puts.kept) (puts.same.told t))
         (either_opened settings (content disk) (content left) cells doubt (changes t)
         (taken_stands tells content size settings folder node partition disk home out mid_home mid_out takes t cells doubt holds)));
+    layout = λ t layout laid.
+        let taken = taken_found tells content size settings folder node partition disk home out mid_home mid_out takes t in
+        place_laid content settings left puts.kept (new_home folder node partition) layout puts.at_home (puts.same.told t).seen
+        ((sees t).layout layout (subst (λ (l : List ℕ). IsLaidOut settings l layout) (sym taken) laid));
+    tidy = λ t tidy. home_tidy tells content size (new_home folder node partition) puts.kept puts.at_home (λ other.
+        subst (λ (l : List ℕ). HasTidy other l) (sym (puts.same.told t).seen)
+        (opens_tidy settings other (content disk).seen (content left).seen (sees t) (unchanged t)
+        (taken_tidy tells content size settings folder node partition disk home out mid_home mid_out takes t other (λ kept is. tidy other kept is))));
   }
+
+-- the bays refused
+pub refused_stays : {D : Type 0} (tells : Type 0) (content : D → Content) (size : D → ℕ) (settings : LogSettings) (folder : List ℕ) (node partition : ℕ) (home new_home : Home D) (out new_out : Out) → Stays home out new_home new_out
+    → StaysClosed tells content size settings (record { slot = None; home = home folder node partition; out = out node partition }) (record { slot = None; home = new_home folder node partition; out = new_out node partition })
+refused_stays tells content size settings folder node partition home new_home out new_out stays =
+    stays_same tells content size settings (record { slot = None; home = home folder node partition; out = out node partition }) (record { slot = None; home = new_home folder node partition; out = new_out node partition })
+    (same_spot None None (home folder node partition) (new_home folder node partition) (out node partition) (new_out node partition) refl (stays.homes folder node partition) (stays.outs node partition))
 
 -- why a disk wasn't opened
 pub cause_of : {D : Type 0} (tells : Type 0) (content : D → Content) (size : D → ℕ) (settings : LogSettings) (home : Option D) (fault : OpenFault) (node partition : ℕ) (refusal : Refusal) → open_fault fault node partition ≡ NodesFault.Refused refusal

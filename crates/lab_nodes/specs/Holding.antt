@@ -7,7 +7,9 @@ use Rattle.cell_model.specs.Cells.{join, cell_in}
 use Rattle.disk_core.specs.Content.{Content, Stops}
 use Rattle.disk_core.specs.Homes.{SameContent}
 use Rattle.log_manifest.specs.declared.manifest.LogSettings.{LogSettings}
-use Rattle.part_log.specs.Log.{disk_size}
+use Rattle.part_log.specs.Images.{IsLaidOut}
+use Rattle.part_log.specs.Layout.{Layout}
+use Rattle.part_log.specs.Log.{disk_size, layout_of}
 use Rattle.replica_core.specs.Maps.{StandsForCells}
 use Rattle.replica_core.specs.State.{ReplicaState}
 use Rattle.world_model.specs.declared.shape.Shape.{Shape}
@@ -42,6 +44,12 @@ pub record HoldsUp {D : Type 0} (settings : LogSettings) (replica : ReplicaState
   pub named : replica.log.table.settings ≡ settings
   pub held : (id : BlobId) → cell_in replica.cells id ≡ cells id
 
+-- An open replica that isn't down has a log of these settings and this layout.
+pub record LogHasLayout {D : Type 0} (settings : LogSettings) (replica : ReplicaState D) (layout : Layout) : Type 0 where
+  pub up : replica.down ≡ false
+  pub named : replica.log.table.settings ≡ settings
+  pub is : layout_of replica.log.table ≡ layout
+
 -- What disks of a type tell.
 module _ {D : Type 0} (content : D → Content) where
   -- an open replica, by whether it is down
@@ -60,11 +68,17 @@ module _ {D : Type 0} (content : D → Content) where
   found settings None = replicate (disk_size settings) 0
   found settings (Some disk) = (content disk).seen
 
-  -- A replica as an opening of its place makes it: it holds what the disk stood for.
+  -- where no replica is open, the layout is that of the bytes that an opening finds
+  abbrev pub PlaceHasLayout : LogSettings → Option (ReplicaState D) → Option D → Layout → Type 0
+  PlaceHasLayout settings (Some replica) home layout = LogHasLayout settings replica layout
+  PlaceHasLayout settings None home layout = IsLaidOut settings (found settings home) layout
+
+  -- A replica as an opening of its place makes it: it holds what the disk stood for, in its layout.
   pub record IsOpened (tells : Type 0) (settings : LogSettings) (home : Option D) (replica : ReplicaState D) : Type 0 where
     pub up : replica.down ≡ false
     pub named : replica.log.table.settings ≡ settings
     pub stood : tells → StandsForCells settings (found settings home) (cell_in replica.cells) replica.log.table.end
+    pub laid_out : tells → IsLaidOut settings (found settings home) (layout_of replica.log.table)
 
   -- what is left of a disk that goes home: all of it, or what a stop of the machine leaves
   abbrev pub Left : (stops : Bool) → D → D → Type 0

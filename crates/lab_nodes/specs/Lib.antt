@@ -3,3 +3,4 @@ pub mod Faults
 pub mod Spots
 pub mod Starting
 pub mod Nodes
+pub mod Layouts

@@ -8,10 +8,12 @@ use Rattle.disk_core.specs.Homes.{Home, Out, HasOtherSize}
 use Rattle.log_manifest.specs.declared.manifest.LogSettings.{LogSettings}
 use Rattle.outside.specs.Causes.{Rose}
 use Rattle.part_log.specs.Images.{IsDamaged, NamesOther}
+use Rattle.part_log.specs.Layout.{Layout}
 use Rattle.part_log.specs.Log.{disk_size}
+use Rattle.replica_core.specs.Maps.{HasTidy}
 use Rattle.replica_core.specs.State.{ReplicaState}
 use Rattle.lab_nodes.specs.declared.places.Which.{Which}
-use Rattle.lab_nodes.specs.Holding.{HoldsPlace, IsOpened, Left, found}
+use Rattle.lab_nodes.specs.Holding.{HoldsPlace, IsOpened, Left, PlaceHasLayout, found}
 use Rattle.world_model.specs.declared.order.What.{What}
 use Rattle.world_model.specs.declared.shape.Shape.{Shape}
 use Rattle.world_model.specs.Shape.{replica_of}
@@ -73,6 +75,14 @@ module _ {D : Type 0} (tells : Type 0) (content : D → Content) (size : D → �
   Keeps settings old new = (cells : BlobId → Cell) (doubt : Option Change)
       → HoldsPlace content settings old.slot old.home cells doubt → HoldsPlace content settings new.slot new.home cells doubt
 
+  -- its layout stays
+  abbrev pub KeepsLayout : LogSettings → Spot D → Spot D → Type 0
+  KeepsLayout settings old new = (layout : Layout) → PlaceHasLayout content settings old.slot old.home layout → PlaceHasLayout content settings new.slot new.home layout
+
+  -- a disk that is at home is that of a tidy log, whatever its settings
+  abbrev pub IsTidyHome : Option D → Type 0
+  IsTidyHome home = (settings : LogSettings) (disk : D) → home ≡ Some disk → HasTidy settings (content disk).seen
+
   -- The disk of a replica is at home, as it is or as a stop leaves it.
   pub record WentHome (stops : Bool) (replica : ReplicaState D) (new : Spot D) : Type 0 where
     pub kept : D
@@ -83,7 +93,7 @@ module _ {D : Type 0} (tells : Type 0) (content : D → Content) (size : D → �
   -- a spot is closed, where a replica is open in it
   abbrev pub GoesHome : (stops : Bool) → Option (ReplicaState D) → Spot D → Spot D → Type 0
   GoesHome stops None old new = new ≡ old
-  GoesHome stops (Some replica) old new = WentHome stops replica new × (tells → (settings : LogSettings) → Keeps settings old new)
+  GoesHome stops (Some replica) old new = WentHome stops replica new × (tells → (settings : LogSettings) → Keeps settings old new × KeepsLayout settings old new)
 
   abbrev pub HaltsSpot : (meant stops : Bool) → Spot D → Spot D → Type 0
   HaltsSpot false stops old new = new ≡ old
@@ -105,6 +115,8 @@ module _ {D : Type 0} (tells : Type 0) (content : D → Content) (size : D → �
     pub slot : new.slot ≡ old.slot
     pub out : new.out ≡ old.out
     pub keeps : tells → Keeps settings old new
+    pub layout : tells → KeepsLayout settings old new
+    pub tidy : tells → IsTidyHome old.home → IsTidyHome new.home
 
   -- why the disk of a place isn't opened
   abbrev pub IsCause : LogSettings → Option D → What → Type 0

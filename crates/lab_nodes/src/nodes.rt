@@ -5,11 +5,14 @@ ghost use Rattle.cell_model.specs.Asks.{Answers, AnswersInRange, AsksInRange, Ca
 ghost use Rattle.cell_model.specs.Pages.{PagesCells};
 ghost use Rattle.cell_model.specs.declared.ask.Reply.{Reply};
 ghost use Rattle.disk_core.specs.Homes.{Out};
-ghost use Rattle.lab_nodes.specs.Nodes.{AsksReplica, Holds, IsPlaceOf, OnlyOwnOut, asked_cells, has_replica, is_up, never_opened, replica_at, stands};
-ghost use Rattle.lab_nodes.specs.Spots.{DiskFailed, HasFailed, slot_at};
+ghost use Rattle.lab_nodes.specs.Holding.{settings_of};
+ghost use Rattle.lab_nodes.specs.Layouts.{HaveLayouts, Layouts, asked_layouts};
+ghost use Rattle.lab_nodes.specs.Nodes.{AllTidy, AsksReplica, Holds, IsPlaceOf, OnlyOwnOut, asked_cells, has_replica, is_up, never_opened, replica_at, stands};
+ghost use Rattle.lab_nodes.specs.Spots.{DiskFailed, HasFailed, WentHome, slot_at};
 ghost use Rattle.lab_nodes.specs.Starting.{AreTidyAt, IsFirst};
 ghost use Rattle.lab_nodes.specs.declared.fault.NodesFault.{NodesFault};
 ghost use Rattle.lab_nodes.specs.declared.places.Which.{Which};
+ghost use Rattle.replica_core.specs.State.{IsPacked, ReplicaState};
 ghost use Rattle.world_model.specs.declared.order.Refusal.{Refusal};
 ghost use Rattle.world_model.specs.declared.shape.Shape.{Shape};
 ghost use Rattle.world_model.specs.Shape.{IsShape};
@@ -75,8 +78,10 @@ where
         ensures up { OnOk result ((n p : ℕ) → is_up self.new n p ≡ has_replica shape.now n p) }
         ensures err { OnErr result (self.new ≡ never_opened self.new.bays) }
         ensures holds { B.Disk.tells → (cells : Cells) → Holds B.Disk.content B.home shape.now folder.now cells self.old → Holds B.Disk.content B.home shape.now folder.now cells self.new }
+        ensures layouts { B.Disk.tells → (layouts : Layouts) → HaveLayouts B.Disk.content B.home shape.now folder.now layouts self.old → HaveLayouts B.Disk.content B.home shape.now folder.now layouts self.new }
         ensures out { B.tells → (before : Out) → OnlyOwnOut B.out before self.old → OnlyOwnOut B.out before self.new }
         ensures refused { (refusal : Refusal) → IsErrOf result (NodesFault.Refused refusal) → B.tells → IsFirst B.Disk.tells B.Disk.content B.Disk.size Which.All shape.now folder.now (B.home self.old.bays) refusal }
+        ensures tidy_again { B.Disk.tells → AllTidy B.Disk.content B.home self.old.bays → AllTidy B.Disk.content B.home self.new.bays }
         ensures failed { IsErrOf result NodesFault.Failed → HasFailed B.Disk.faults (B.faults self.old.bays) (B.faults self.new.bays) }
         ensures later { B.faults self.old.bays ≤ B.faults self.new.bays }
         ensures same { B.same self.old.bays self.new.bays }
@@ -108,6 +113,11 @@ where
         ensures pages { B.Disk.tells → (shape : Shape) (folder : List ℕ) (cells : Cells) → Holds B.Disk.content B.home shape folder cells self.old → PagesCells (cells node partition) result }
         ensures holds { B.Disk.tells → (shape : Shape) (folder : List ℕ) (cells : Cells) → Holds B.Disk.content B.home shape folder cells self.old → result ≢ Reply.Fault
             → Holds B.Disk.content B.home shape folder (asked_cells cells node partition ask result) self.new }
+        // The ask is full exactly where its record has no place in the layout, unless memory runs out, and a record that is put is packed behind the others.
+        ensures packed { B.Disk.tells → (shape : Shape) (folder : List ℕ) (cells : Cells) (layouts : Layouts) → Holds B.Disk.content B.home shape folder cells self.old → HaveLayouts B.Disk.content B.home shape folder layouts self.old
+            → result ≢ Reply.Fault → is_up self.old node partition ≡ true → IsPacked (settings_of shape) (layouts node partition) (cells node partition (id_of ask)) ask result }
+        ensures layouts { B.Disk.tells → (shape : Shape) (folder : List ℕ) (cells : Cells) (layouts : Layouts) → Holds B.Disk.content B.home shape folder cells self.old → HaveLayouts B.Disk.content B.home shape folder layouts self.old
+            → result ≢ Reply.Fault → HaveLayouts B.Disk.content B.home shape folder (asked_layouts (settings_of shape) cells layouts node partition ask result) self.new }
         ensures fault { result ≡ Reply.Fault → B.Disk.tells → DiskFailed B.Disk.faults }
         ensures named { (self.new.shape ≡ self.old.shape) × (self.new.folder ≡ self.old.folder) }
         ensures bays { self.new.bays ≡ self.old.bays }
@@ -124,7 +134,11 @@ where
         ensures up { (n p : ℕ) → is_up self.new n p ≡ (is_up self.old n p && not (n == node)) }
         ensures named { (self.new.shape ≡ self.old.shape) × (self.new.folder ≡ self.old.folder) }
         ensures holds { B.Disk.tells → (shape : Shape) (folder : List ℕ) (cells : Cells) → Holds B.Disk.content B.home shape folder cells self.old → Holds B.Disk.content B.home shape folder cells self.new }
+        ensures layouts { B.Disk.tells → (shape : Shape) (folder : List ℕ) (layouts : Layouts) → HaveLayouts B.Disk.content B.home shape folder layouts self.old → HaveLayouts B.Disk.content B.home shape folder layouts self.new }
+        // A disk goes home as a stop of the machine leaves it.
+        ensures left { B.tells → (p : ℕ) (replica : ReplicaState B.Disk) → replica_at self.old node p ≡ Some replica → WentHome B.Disk.tells B.Disk.content B.Disk.size true replica (record { slot = None; home = B.home self.new.bays self.new.folder node p; out = B.out self.new.bays node p }) }
         ensures out { B.tells → (before : Out) → OnlyOwnOut B.out before self.old → OnlyOwnOut B.out before self.new }
+        ensures tidy_again { B.Disk.tells → AllTidy B.Disk.content B.home self.old.bays → AllTidy B.Disk.content B.home self.new.bays }
         ensures faults { B.faults self.new.bays ≡ B.faults self.old.bays }
         ensures same { B.same self.old.bays self.new.bays }
     {
@@ -148,8 +162,10 @@ where
         ensures err { OnErr result ((n p : ℕ) → is_up self.new n p ≡ is_up self.old n p) }
         ensures named { (self.new.shape ≡ self.old.shape) × (self.new.folder ≡ self.old.folder) }
         ensures holds { B.Disk.tells → (shape : Shape) (folder : List ℕ) (cells : Cells) → Holds B.Disk.content B.home shape folder cells self.old → Holds B.Disk.content B.home shape folder cells self.new }
+        ensures layouts { B.Disk.tells → (shape : Shape) (folder : List ℕ) (layouts : Layouts) → HaveLayouts B.Disk.content B.home shape folder layouts self.old → HaveLayouts B.Disk.content B.home shape folder layouts self.new }
         ensures out { B.tells → (before : Out) → OnlyOwnOut B.out before self.old → OnlyOwnOut B.out before self.new }
         ensures refused { (refusal : Refusal) → IsErrOf result (NodesFault.Refused refusal) → refusal.node ≡ node }
+        ensures tidy_again { B.Disk.tells → AllTidy B.Disk.content B.home self.old.bays → AllTidy B.Disk.content B.home self.new.bays }
         ensures failed { IsErrOf result NodesFault.Failed → HasFailed B.Disk.faults (B.faults self.old.bays) (B.faults self.new.bays) }
         ensures later { B.faults self.old.bays ≤ B.faults self.new.bays }
         ensures same { B.same self.old.bays self.new.bays }
@@ -173,7 +189,10 @@ where
         ensures up { (n p : ℕ) → is_up self.new n p ≡ false }
         ensures named { (self.new.shape ≡ self.old.shape) × (self.new.folder ≡ self.old.folder) }
         ensures holds { B.Disk.tells → (shape : Shape) (folder : List ℕ) (cells : Cells) → Holds B.Disk.content B.home shape folder cells self.old → Holds B.Disk.content B.home shape folder cells self.new }
+        ensures layouts { B.Disk.tells → (shape : Shape) (folder : List ℕ) (layouts : Layouts) → HaveLayouts B.Disk.content B.home shape folder layouts self.old → HaveLayouts B.Disk.content B.home shape folder layouts self.new }
+        ensures left { B.tells → (n p : ℕ) (replica : ReplicaState B.Disk) → replica_at self.old n p ≡ Some replica → WentHome B.Disk.tells B.Disk.content B.Disk.size false replica (record { slot = None; home = B.home self.new.bays self.new.folder n p; out = B.out self.new.bays n p }) }
         ensures out { B.tells → (before : Out) → OnlyOwnOut B.out before self.old → OnlyOwnOut B.out before self.new }
+        ensures tidy_again { B.Disk.tells → AllTidy B.Disk.content B.home self.old.bays → AllTidy B.Disk.content B.home self.new.bays }
         ensures faults { B.faults self.new.bays ≡ B.faults self.old.bays }
         ensures same { B.same self.old.bays self.new.bays }
     {

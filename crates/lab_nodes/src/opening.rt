@@ -4,9 +4,11 @@ ghost use Rattle.std.specs.Prelude.{◌≡◌, ◌≤◌, ℕ, List, Option, Som
 ghost use Rattle.blob_id.specs.declared.id.BlobId.{BlobId};
 ghost use Rattle.cell_model.specs.declared.cell.Cell.{Cell};
 ghost use Rattle.disk_core.specs.Homes.{OthersStay};
-ghost use Rattle.lab_nodes.specs.Holding.{AllStandEither, HoldsOpen, IsOpened, Left, settings_of};
+ghost use Rattle.lab_nodes.specs.Holding.{AllStandEither, HoldsOpen, IsOpened, Left, LogHasLayout, settings_of};
 ghost use Rattle.lab_nodes.specs.Spots.{GoesHome, HasFailed, IsCause, OpensSpot, StaysClosed};
 ghost use Rattle.log_manifest.specs.declared.manifest.LogSettings.{LogSettings};
+ghost use Rattle.part_log.specs.Images.{IsLaidOut};
+ghost use Rattle.part_log.specs.Layout.{Layout};
 ghost use Rattle.part_log.specs.Log.{AreInRange, disk_size};
 ghost use Rattle.replica_core.specs.Maps.{HasTidy};
 ghost use Rattle.world_model.specs.declared.order.Refusal.{Refusal};
@@ -88,6 +90,7 @@ fn close_replica<D: Disk>(replica: Replica<D>, stops: bool) -> D
     ensures left { D.tells → Left D.content stops replica.log.disk result }
     ensures stands { D.tells → (settings : LogSettings) (cells : BlobId → Cell) (doubt : Option Change)
         → HoldsOpen D.content settings replica.down replica cells doubt → AllStandEither settings (D.content result) cells doubt }
+    ensures laid_out { D.tells → (settings : LogSettings) (layout : Layout) → LogHasLayout settings replica layout → IsLaidOut settings (D.content result).seen layout }
     ensures size { D.size result ≡ D.size replica.log.disk }
 {
     let mut disk = replica.close();

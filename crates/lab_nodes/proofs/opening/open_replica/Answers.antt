@@ -1,12 +1,12 @@
 use Rattle.std.proofs.Common.{◌≡◌, ℕ, List, sym, ◌∙◌, subst}
-use Rattle.part_log.specs.Images.{IsDamaged, NamesOther}
-use Rattle.part_log.specs.Log.{disk_size}
+use Rattle.part_log.specs.Images.{IsDamaged, IsLaidOut, NamesOther}
+use Rattle.part_log.specs.Log.{disk_size, layout_of}
 use Rattle.cell_model.specs.Cells.{cell_in}
 use Rattle.disk_core.specs.Homes.{TakesOut}
 use Rattle.replica_core.specs.Maps.{StandsForCells}
 use Rattle.lab_nodes.specs.declared.fault.NodesFault.{NodesFault}
 use Rattle.lab_nodes.specs.Holding.{found}
-use Rattle.lab_nodes.proofs.Taking.{cause_of, goes_back, opens, others_on, taken_found, taken_tidy}
+use Rattle.lab_nodes.proofs.Taking.{cause_of, goes_back, opens, others_on, refused_stays, taken_found, taken_tidy}
 use Rattle.lab_nodes.proofs.opening.open_replica.Goals as goal
 use Rattle.lab_nodes.proofs.opening.open_replica.Goals.{In-Ok}
 
@@ -20,7 +20,7 @@ seen g c t = taken_found g.B.Disk.Disk.tells g.B.Disk.Disk.content g.B.Disk.Disk
 pub open-requires-2-clause-tidy : goal.open-requires-2-clause-tidy
 open-requires-2-clause-tidy g c = λ t.
     let it = (goal.at.open-requires-2-clause-tidy g c).In-Ok in
-    taken_tidy g.B.Disk.Disk.tells g.B.Disk.Disk.content g.B.Disk.Disk.size c.args.settings c.args.folder.now c.args.node c.args.partition c.in-Ok.disk _ _ _ _ (takes g it (g.met.B.Bays.known t)) t (c.requires.tidy t)
+    taken_tidy g.B.Disk.Disk.tells g.B.Disk.Disk.content g.B.Disk.Disk.size c.args.settings c.args.folder.now c.args.node c.args.partition c.in-Ok.disk _ _ _ _ (takes g it (g.met.B.Bays.known t)) t c.args.settings (c.requires.tidy t)
 
 pub returns-in-Ok-open-clause-opened : goal.returns-in-Ok-open-clause-opened
 returns-in-Ok-open-clause-opened g c =
@@ -29,6 +29,7 @@ returns-in-Ok-open-clause-opened g c =
       up = c.in-Ok-open.ensures.up;
       named = c.in-Ok-open.ensures.settings;
       stood = λ t. subst (λ (l : List ℕ). StandsForCells c.args.settings l (cell_in c.in-Ok-open.replica.cells) c.in-Ok-open.replica.log.table.end) (seen g it t) (c.in-Ok-open.ensures.cells t);
+      laid_out = λ t. subst (λ (l : List ℕ). IsLaidOut c.args.settings l (layout_of c.in-Ok-open.replica.log.table)) (seen g it t) (c.in-Ok-open.ensures.laid_out t);
     }
 
 pub returns-in-Ok-open-clause-out : goal.returns-in-Ok-open-clause-out
@@ -36,12 +37,16 @@ returns-in-Ok-open-clause-out g c = λ t.
     let it = (goal.at.returns-in-Ok-open-clause-out g c).In-Ok in
     opens g.B.Disk.Disk.tells g.B.Disk.Disk.content g.B.Disk.Disk.size c.args.settings c.args.folder.now c.args.node c.args.partition c.in-Ok.disk _ _ _ _ (takes g it t) c.in-Ok-open.replica (returns-in-Ok-open-clause-opened g c)
 
+pub returns-in-Err-clause-closed : goal.returns-in-Err-clause-closed
+returns-in-Err-clause-closed g c = λ t.
+    refused_stays g.B.Disk.Disk.tells g.B.Disk.Disk.content g.B.Disk.Disk.size c.args.settings c.args.folder.now c.args.node c.args.partition _ _ _ _ (c.in-Err.ensures.refused t)
+
 pub returns-in-Err-open-clause-closed : goal.returns-in-Err-open-clause-closed
 returns-in-Err-open-clause-closed g c = λ t.
     let it = (goal.at.returns-in-Err-open-clause-closed g c).In-Ok in
     let taken = takes g it t in
     goes_back g.B.Disk.Disk.tells g.B.Disk.Disk.content g.B.Disk.Disk.size c.args.settings c.args.folder.now c.args.node c.args.partition c.in-Ok.disk _ _ _ _ taken c.in-Err-open.disk _ _
-    (c.give_back.ensures.home t c.args.folder.now taken.is_out) c.in-Err-open.ensures.during_err
+    (c.give_back.ensures.home t c.args.folder.now taken.is_out) c.in-Err-open.ensures.during_err c.in-Err-open.ensures.opens_err c.in-Err-open.ensures.kept_err
 
 pub returns-in-Err-open-clause-others : goal.returns-in-Err-open-clause-others
 returns-in-Err-open-clause-others g c = λ t.

@@ -3,12 +3,15 @@ use Rattle.std.specs.Option.{is_some}
 use Rattle.std.specs.Prelude.{string_bytes}
 use Rattle.cell_model.specs.Asks.{Answers, IsRefusal, id_of}
 use Rattle.cell_model.specs.Pages.{PagesCells}
-use Rattle.replica_core.specs.State.{ReplicaState}
+use Rattle.replica_core.specs.State.{IsPacked, ReplicaState}
 use Rattle.world_model.specs.declared.shape.Shape.{Shape}
+use Rattle.lab_nodes.specs.Holding.{settings_of}
+use Rattle.lab_nodes.specs.Layouts.{HaveLayouts, asked_layouts}
 use Rattle.lab_nodes.specs.Nodes.{AsksReplica, Holds, IsNodes, IsOpen, IsPlaceOf, NodesState, asked_cells, is_up, replica_at, replica_in}
 use Rattle.lab_nodes.proofs.Asking.{asks_fault, asks_none, asks_some}
 use Rattle.lab_nodes.proofs.Halting.{holds_for, places_of}
-use Rattle.lab_nodes.proofs.Setting.{asked_answered, asked_holds, asked_open, asked_others, asked_pages, asked_state, asked_up, unasked_holds}
+use Rattle.lab_nodes.proofs.Packing.{layouts_for, layouts_of}
+use Rattle.lab_nodes.proofs.Setting.{asked_answered, asked_holds, asked_is_packed, asked_laid, asked_open, asked_others, asked_pages, asked_state, asked_up, unasked_holds, unasked_layouts}
 use Rattle.lab_nodes.proofs.Walking.{slot_found}
 use Rattle.lab_nodes.proofs.nodes.LabNodes.ask.Goals as goal
 use Rattle.lab_nodes.proofs.nodes.LabNodes.ask.Goals.{In-Some, In-None}
@@ -110,3 +113,32 @@ pub returns-in-None-clause-holds : goal.returns-in-None-clause-holds
 returns-in-None-clause-holds g c = λ t shape folder cells holds calm.
     let it = (goal.at.returns-in-None-clause-holds g c).In-None in
     unasked_holds g.B.Disk.Disk.content g.B.Bays.home shape folder cells c.args.node c.args.partition c.args.ask c.args.self.now holds
+
+pub returns-in-Some-clause-packed : goal.returns-in-Some-clause-packed
+returns-in-Some-clause-packed g c = λ t shape folder cells layouts holds have calm up.
+    let it = (goal.at.returns-in-Some-clause-packed g c).In-Some in
+    let at = place_is g it in
+    let was = slot_found c.self.inside.slots.items c.in-Some.place c.index_mut.result.now at.within c.index_mut.ensures.value in
+    let asked = subst (λ (s : Option (ReplicaState g.row.B-Disk.Denot)). AsksReplica g.B.Disk.Disk.tells g.B.Disk.Disk.content g.B.Disk.Disk.size g.B.Disk.Disk.faults s c.args.ask c.ask_slot.result c.ask_slot.new.slot) (sym was) c.ask_slot.ensures in
+    subst (λ (s : NodesState g.row.B.Denot g.row.B-Disk.Denot). Holds g.B.Disk.Disk.content g.B.Bays.home shape folder cells s → HaveLayouts g.B.Disk.Disk.content g.B.Bays.home shape folder layouts s → is_up s c.args.node c.args.partition ≡ true → IsPacked (settings_of shape) (layouts c.args.node c.args.partition) (cells c.args.node c.args.partition (id_of c.args.ask)) c.args.ask c.ask_slot.result) c.self.view_is
+    (subst (λ (o : Option Shape). Holds g.B.Disk.Disk.content g.B.Bays.home shape folder cells (record { shape = o; folder = string_bytes c.self.inside.folder; bays = c.self.inside.bays; slots = c.self.inside.slots.items }) → HaveLayouts g.B.Disk.Disk.content g.B.Bays.home shape folder layouts (record { shape = o; folder = string_bytes c.self.inside.folder; bays = c.self.inside.bays; slots = c.self.inside.slots.items }) → is_some (replica_in o c.self.inside.slots.items c.args.node c.args.partition) ≡ true → IsPacked (settings_of shape) (layouts c.args.node c.args.partition) (cells c.args.node c.args.partition (id_of c.args.ask)) c.args.ask c.ask_slot.result) (sym at.is_open)
+    (λ held laid some. subst (λ (s : Shape). IsPacked (settings_of s) (layouts c.args.node c.args.partition) (cells c.args.node c.args.partition (id_of c.args.ask)) c.args.ask c.ask_slot.result) held.named.0
+    (asked_is_packed g.B.Bays.tells g.B.Disk.Disk.tells g.B.Disk.Disk.content g.B.Disk.Disk.size g.B.Disk.Disk.faults g.B.Bays.home g.B.Bays.out at.shape (string_bytes c.self.inside.folder) c.self.inside.bays c.self.inside.slots.items c.args.node c.args.partition c.in-Some.place c.ask_slot.new.slot c.args.ask c.ask_slot.result
+    (opened g it) at.some_node at.column at.is at.within asked t cells layouts (places_of g.B.Disk.Disk.content g.B.Bays.home at.shape (string_bytes c.self.inside.folder) c.self.inside.bays c.self.inside.slots.items shape folder cells held) (layouts_of g.B.Disk.Disk.content g.B.Bays.home at.shape (string_bytes c.self.inside.folder) c.self.inside.bays c.self.inside.slots.items shape folder layouts laid) some))) holds have up
+
+pub returns-in-Some-clause-layouts : goal.returns-in-Some-clause-layouts
+returns-in-Some-clause-layouts g c = λ t shape folder cells layouts holds have calm.
+    let it = (goal.at.returns-in-Some-clause-layouts g c).In-Some in
+    let at = place_is g it in
+    let was = slot_found c.self.inside.slots.items c.in-Some.place c.index_mut.result.now at.within c.index_mut.ensures.value in
+    let asked = subst (λ (s : Option (ReplicaState g.row.B-Disk.Denot)). AsksReplica g.B.Disk.Disk.tells g.B.Disk.Disk.content g.B.Disk.Disk.size g.B.Disk.Disk.faults s c.args.ask c.ask_slot.result c.ask_slot.new.slot) (sym was) c.ask_slot.ensures in
+    let new = λ (s : Shape). asked_layouts (settings_of s) cells layouts c.args.node c.args.partition c.args.ask c.ask_slot.result in
+    subst (λ (s : NodesState g.row.B.Denot g.row.B-Disk.Denot). Holds g.B.Disk.Disk.content g.B.Bays.home shape folder cells s → HaveLayouts g.B.Disk.Disk.content g.B.Bays.home shape folder layouts s → HaveLayouts g.B.Disk.Disk.content g.B.Bays.home shape folder (new shape) (record { shape = c.self.inside.shape; folder = string_bytes c.self.inside.folder; bays = c.self.inside.bays; slots = slice_set c.self.inside.slots.items c.in-Some.place c.ask_slot.new.slot })) c.self.view_is
+    (subst (λ (o : Option Shape). Holds g.B.Disk.Disk.content g.B.Bays.home shape folder cells (record { shape = o; folder = string_bytes c.self.inside.folder; bays = c.self.inside.bays; slots = c.self.inside.slots.items }) → HaveLayouts g.B.Disk.Disk.content g.B.Bays.home shape folder layouts (record { shape = o; folder = string_bytes c.self.inside.folder; bays = c.self.inside.bays; slots = c.self.inside.slots.items }) → HaveLayouts g.B.Disk.Disk.content g.B.Bays.home shape folder (new shape) (record { shape = o; folder = string_bytes c.self.inside.folder; bays = c.self.inside.bays; slots = slice_set c.self.inside.slots.items c.in-Some.place c.ask_slot.new.slot })) (sym at.is_open)
+    (λ held. layouts_for g.B.Disk.Disk.content g.B.Bays.home at.shape (string_bytes c.self.inside.folder) c.self.inside.bays c.self.inside.bays c.self.inside.slots.items (slice_set c.self.inside.slots.items c.in-Some.place c.ask_slot.new.slot) shape folder layouts new
+    (asked_laid g.B.Bays.tells g.B.Disk.Disk.tells g.B.Disk.Disk.content g.B.Disk.Disk.size g.B.Disk.Disk.faults g.B.Bays.home g.B.Bays.out at.shape (string_bytes c.self.inside.folder) c.self.inside.bays c.self.inside.slots.items c.args.node c.args.partition c.in-Some.place c.ask_slot.new.slot c.args.ask c.ask_slot.result
+    (opened g it) at.some_node at.column at.is at.within asked t calm cells layouts (places_of g.B.Disk.Disk.content g.B.Bays.home at.shape (string_bytes c.self.inside.folder) c.self.inside.bays c.self.inside.slots.items shape folder cells held)))) holds have
+
+pub returns-in-None-clause-layouts : goal.returns-in-None-clause-layouts
+returns-in-None-clause-layouts g c = λ t shape folder cells layouts holds have calm.
+    unasked_layouts g.B.Disk.Disk.content g.B.Bays.home shape folder cells layouts c.args.node c.args.partition c.args.ask c.args.self.now have

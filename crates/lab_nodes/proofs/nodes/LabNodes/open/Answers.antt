@@ -1,10 +1,11 @@
 use Rattle.std.proofs.Common.{ℕ, List, Some, sym, ◌∙◌, ap, subst, arith}
 use Rattle.std.specs.Prelude.{string_bytes}
 use Rattle.lab_nodes.specs.declared.places.Which.{Which}
-use Rattle.lab_nodes.specs.Nodes.{Holds, IsOpen, NodesState, OnlyOwnOut}
+use Rattle.lab_nodes.specs.Layouts.{HaveLayouts}
+use Rattle.lab_nodes.specs.Nodes.{AllTidy, Holds, IsOpen, NodesState, OnlyOwnOut}
 use Rattle.lab_nodes.specs.Spots.{HasFailed}
 use Rattle.lab_nodes.specs.Starting.{AreTidyAt, IsFirst}
-use Rattle.lab_nodes.proofs.Beginning.{none_open, opened_holds, opened_open, opened_out, opened_up, unopened_holds, unopened_out}
+use Rattle.lab_nodes.proofs.Beginning.{none_open, opened_holds, opened_layouts, opened_open, opened_out, opened_tidy, opened_up, unopened_holds, unopened_layouts, unopened_out, unopened_tidy}
 use Rattle.lab_nodes.proofs.Placing.{few_places}
 use Rattle.lab_nodes.proofs.nodes.LabNodes.open.Goals as goal
 
@@ -25,6 +26,12 @@ returns-in-Err-clause-holds g c = λ t cells.
     subst (λ (s : NodesState g.row.B.Denot g.row.B-Disk.Denot). Holds g.B.Disk.Disk.content g.B.Bays.home c.args.shape.now c.args.folder.now cells s → Holds g.B.Disk.Disk.content g.B.Bays.home c.args.shape.now c.args.folder.now cells (record { shape = c.self.inside.shape; folder = string_bytes c.self.inside.folder; bays = c.start.new.bays; slots = c.self.inside.slots.items })) c.self.view_is
     (unopened_holds g.B.Bays.tells g.B.Disk.Disk.tells g.B.Disk.Disk.content g.B.Disk.Disk.size g.B.Bays.home g.B.Bays.out g.met.B.Bays.known c.args.shape.now c.args.folder.now (record { shape = c.self.inside.shape; folder = string_bytes c.self.inside.folder; bays = c.self.inside.bays; slots = c.self.inside.slots.items }) (record { shape = c.self.inside.shape; folder = string_bytes c.self.inside.folder; bays = c.start.new.bays; slots = c.self.inside.slots.items }) c.in_ok-slots.slots.items c.start.new.slots.items
     (ap (λ (s : NodesState g.row.B.Denot g.row.B-Disk.Denot). s.shape) c.self.view_is ∙ c.requires.closed) (ap (λ (s : NodesState g.row.B.Denot g.row.B-Disk.Denot). s.shape) c.self.view_is ∙ c.requires.closed) c.in_ok-slots.ensures.none c.in-Err.ensures.closed c.in-Err.ensures.closed_spots c.start.ensures.rest t cells)
+
+pub returns-in-Err-clause-layouts : goal.returns-in-Err-clause-layouts
+returns-in-Err-clause-layouts g c = λ t layouts.
+    subst (λ (s : NodesState g.row.B.Denot g.row.B-Disk.Denot). HaveLayouts g.B.Disk.Disk.content g.B.Bays.home c.args.shape.now c.args.folder.now layouts s → HaveLayouts g.B.Disk.Disk.content g.B.Bays.home c.args.shape.now c.args.folder.now layouts (record { shape = c.self.inside.shape; folder = string_bytes c.self.inside.folder; bays = c.start.new.bays; slots = c.self.inside.slots.items })) c.self.view_is
+    (unopened_layouts g.B.Bays.tells g.B.Disk.Disk.tells g.B.Disk.Disk.content g.B.Disk.Disk.size g.B.Bays.home g.B.Bays.out g.met.B.Bays.known c.args.shape.now c.args.folder.now (record { shape = c.self.inside.shape; folder = string_bytes c.self.inside.folder; bays = c.self.inside.bays; slots = c.self.inside.slots.items }) (record { shape = c.self.inside.shape; folder = string_bytes c.self.inside.folder; bays = c.start.new.bays; slots = c.self.inside.slots.items }) c.in_ok-slots.slots.items c.start.new.slots.items
+    (ap (λ (s : NodesState g.row.B.Denot g.row.B-Disk.Denot). s.shape) c.self.view_is ∙ c.requires.closed) (ap (λ (s : NodesState g.row.B.Denot g.row.B-Disk.Denot). s.shape) c.self.view_is ∙ c.requires.closed) c.in_ok-slots.ensures.none c.in-Err.ensures.closed c.in-Err.ensures.closed_spots c.start.ensures.rest t layouts)
 
 pub returns-in-Err-clause-out : goal.returns-in-Err-clause-out
 returns-in-Err-clause-out g c = λ t before.
@@ -59,9 +66,28 @@ returns-clause-holds g c = λ t cells.
     (opened_holds g.B.Bays.tells g.B.Disk.Disk.tells g.B.Disk.Disk.content g.B.Disk.Disk.size g.B.Bays.home g.B.Bays.out g.met.B.Bays.known c.args.shape.now c.args.folder.now (record { shape = c.self.inside.shape; folder = string_bytes c.self.inside.folder; bays = c.self.inside.bays; slots = c.self.inside.slots.items }) c.start.new.bays c.in_ok-slots.slots.items c.start.new.slots.items
     (ap (λ (s : NodesState g.row.B.Denot g.row.B-Disk.Denot). s.shape) c.self.view_is ∙ c.requires.closed) c.requires.shape c.in_ok-slots.ensures.length c.start.ensures.length c.in_ok-slots.ensures.none c.in-Ok.ensures.slots c.in-Ok.ensures.spots c.start.ensures.rest t cells))
 
+pub returns-clause-layouts : goal.returns-clause-layouts
+returns-clause-layouts g c = λ t layouts.
+    subst (λ (f : List ℕ). HaveLayouts g.B.Disk.Disk.content g.B.Bays.home c.args.shape.now c.args.folder.now layouts c.args.self.now → HaveLayouts g.B.Disk.Disk.content g.B.Bays.home c.args.shape.now c.args.folder.now layouts (record { shape = Some c.args.shape.now; folder = f; bays = c.start.new.bays; slots = c.start.new.slots.items })) (sym c.in_ok-kept.ensures)
+    (subst (λ (s : NodesState g.row.B.Denot g.row.B-Disk.Denot). HaveLayouts g.B.Disk.Disk.content g.B.Bays.home c.args.shape.now c.args.folder.now layouts s → HaveLayouts g.B.Disk.Disk.content g.B.Bays.home c.args.shape.now c.args.folder.now layouts (record { shape = Some c.args.shape.now; folder = c.args.folder.now; bays = c.start.new.bays; slots = c.start.new.slots.items })) c.self.view_is
+    (opened_layouts g.B.Bays.tells g.B.Disk.Disk.tells g.B.Disk.Disk.content g.B.Disk.Disk.size g.B.Bays.home g.B.Bays.out g.met.B.Bays.known c.args.shape.now c.args.folder.now (record { shape = c.self.inside.shape; folder = string_bytes c.self.inside.folder; bays = c.self.inside.bays; slots = c.self.inside.slots.items }) c.start.new.bays c.in_ok-slots.slots.items c.start.new.slots.items
+    (ap (λ (s : NodesState g.row.B.Denot g.row.B-Disk.Denot). s.shape) c.self.view_is ∙ c.requires.closed) c.requires.shape c.in_ok-slots.ensures.length c.start.ensures.length c.in_ok-slots.ensures.none c.in-Ok.ensures.slots c.in-Ok.ensures.spots c.start.ensures.rest t layouts))
+
 pub returns-clause-out : goal.returns-clause-out
 returns-clause-out g c = λ t before.
     subst (λ (f : List ℕ). OnlyOwnOut g.B.Bays.out before c.args.self.now → OnlyOwnOut g.B.Bays.out before (record { shape = Some c.args.shape.now; folder = f; bays = c.start.new.bays; slots = c.start.new.slots.items })) (sym c.in_ok-kept.ensures)
     (subst (λ (s : NodesState g.row.B.Denot g.row.B-Disk.Denot). OnlyOwnOut g.B.Bays.out before s → OnlyOwnOut g.B.Bays.out before (record { shape = Some c.args.shape.now; folder = c.args.folder.now; bays = c.start.new.bays; slots = c.start.new.slots.items })) c.self.view_is
     (opened_out g.B.Bays.tells g.B.Disk.Disk.tells g.B.Disk.Disk.content g.B.Disk.Disk.size g.B.Bays.home g.B.Bays.out g.met.B.Bays.known c.args.shape.now c.args.folder.now (record { shape = c.self.inside.shape; folder = string_bytes c.self.inside.folder; bays = c.self.inside.bays; slots = c.self.inside.slots.items }) c.start.new.bays c.in_ok-slots.slots.items c.start.new.slots.items
     (ap (λ (s : NodesState g.row.B.Denot g.row.B-Disk.Denot). s.shape) c.self.view_is ∙ c.requires.closed) c.requires.shape c.in_ok-slots.ensures.length c.start.ensures.length c.in_ok-slots.ensures.none c.in-Ok.ensures.slots c.in-Ok.ensures.spots c.start.ensures.rest t before))
+
+pub returns-in-Err-clause-tidy_again : goal.returns-in-Err-clause-tidy_again
+returns-in-Err-clause-tidy_again g c = λ t.
+    subst (λ (s : NodesState g.row.B.Denot g.row.B-Disk.Denot). AllTidy g.B.Disk.Disk.content g.B.Bays.home s.bays → AllTidy g.B.Disk.Disk.content g.B.Bays.home c.start.new.bays) c.self.view_is
+    (unopened_tidy g.B.Bays.tells g.B.Disk.Disk.tells g.B.Disk.Disk.content g.B.Disk.Disk.size g.B.Bays.home g.B.Bays.out g.met.B.Bays.known c.args.shape.now c.args.folder.now (record { shape = c.self.inside.shape; folder = string_bytes c.self.inside.folder; bays = c.self.inside.bays; slots = c.self.inside.slots.items }) (record { shape = c.self.inside.shape; folder = string_bytes c.self.inside.folder; bays = c.start.new.bays; slots = c.self.inside.slots.items }) c.in_ok-slots.slots.items c.start.new.slots.items
+    (ap (λ (s : NodesState g.row.B.Denot g.row.B-Disk.Denot). s.shape) c.self.view_is ∙ c.requires.closed) (ap (λ (s : NodesState g.row.B.Denot g.row.B-Disk.Denot). s.shape) c.self.view_is ∙ c.requires.closed) c.in_ok-slots.ensures.none c.in-Err.ensures.closed c.in-Err.ensures.closed_spots c.start.ensures.rest t)
+
+pub returns-clause-tidy_again : goal.returns-clause-tidy_again
+returns-clause-tidy_again g c = λ t.
+    subst (λ (s : NodesState g.row.B.Denot g.row.B-Disk.Denot). AllTidy g.B.Disk.Disk.content g.B.Bays.home s.bays → AllTidy g.B.Disk.Disk.content g.B.Bays.home c.start.new.bays) c.self.view_is
+    (opened_tidy g.B.Bays.tells g.B.Disk.Disk.tells g.B.Disk.Disk.content g.B.Disk.Disk.size g.B.Bays.home g.B.Bays.out g.met.B.Bays.known c.args.shape.now c.args.folder.now (record { shape = c.self.inside.shape; folder = string_bytes c.self.inside.folder; bays = c.self.inside.bays; slots = c.self.inside.slots.items }) c.start.new.bays c.in_ok-slots.slots.items c.start.new.slots.items
+    (ap (λ (s : NodesState g.row.B.Denot g.row.B-Disk.Denot). s.shape) c.self.view_is ∙ c.requires.closed) c.requires.shape c.in_ok-slots.ensures.length c.start.ensures.length c.in_ok-slots.ensures.none c.in-Ok.ensures.slots c.in-Ok.ensures.spots c.start.ensures.rest t)
