@@ -51,5 +51,5 @@ module _ {B D : Type 0} (bays_tell disks_tell : Type 0) (content : D → Content
         sound = steps.sound;
         runs = steps.runs;
         goes = goes_asked bays_tell disks_tell content faults home out same s (record s { requests = requests; replies = replies; answered = count; past = past }) nodes nodes' asked.number (record { from = 0; node = asked.node; frame = Some reads.0 }) call reply
-            e of (refl, refl) told_is as_sent.request as_sent.called (sound.state.stopped asked.node ∙ as_sent.running) so;
+            e of (refl, refl) told_is as_sent.request as_sent.called (sound.state.stopped asked.node ∙ as_sent.running) as_sent.running so;
       }

@@ -113,10 +113,10 @@ tells_order s s' order answer obeys =
 pub plays_given : (given : List Move) (n n' : Network) (event : Event) → IsOldest n.queue event → n' ≡ after_given n event → Plays given n given n'
 plays_given given n n' event oldest e = (Gives event ∷ [], tt, record { moves = sym (append-nil given); may = (tt, oldest); network = e })
 
-pub plays_next : (given given' : List Move) (n n' : Network) (chosen : Move) (result : Result Event Memory) (S T K : Type 0) → IsSome n.shape → n.queue ≡ [] → Does n chosen n' result → given' ≡ given ++ chosen ∷ [] → S → T → K
-    → OnOk result (Plays given n given' n' × S × T × K)
-plays_next given given' n n' chosen (Ok event) S T K some calm m e same seeds bays = ((Moves chosen m.reply m.opened ∷ [], tt, record { moves = e; may = (tt, (some, calm, m.may)); network = m.network }), same, seeds, bays)
-plays_next given given' n n' chosen (Err memory) S T K some calm m e same seeds bays = tt
+pub plays_next : (given given' : List Move) (n n' : Network) (chosen : Move) (result : Result Event Memory) (S T K L : Type 0) → IsSome n.shape → n.queue ≡ [] → Does n chosen n' result → given' ≡ given ++ chosen ∷ [] → S → T → K → L
+    → OnOk result (Plays given n given' n' × S × T × K × L)
+plays_next given given' n n' chosen (Ok event) S T K L some calm m e same seeds bays packing = ((Moves chosen m.reply m.opened ∷ [], tt, record { moves = e; may = (tt, (some, calm, m.may)); network = m.network }), same, seeds, bays, packing)
+plays_next given given' n n' chosen (Err memory) S T K L some calm m e same seeds bays packing = tt
 
 pub falls_next : (given given' : List Move) (n n' : Network) (chosen : Move) (result : Result Event Memory) → IsSome n.shape → n.queue ≡ [] → Does n chosen n' result → given' ≡ given ++ chosen ∷ [] → Falls given n given' n'
 falls_next given given' n n' chosen (Ok event) some calm m e = (Moves chosen m.reply m.opened ∷ [], record { moves = e; may = (tt, (some, calm, m.may)); network = m.network })

@@ -7,6 +7,7 @@ use Rattle.std.proofs.lemmas.List.Elements.{All-head, All-tail, All-filter, All-
 use Rattle.std.proofs.lemmas.List.Sums.{length-filter, count_by-le-length}
 use Rattle.cell_model.specs.declared.ask.Reply.{Reply}
 use Rattle.cell_model.specs.Asks.{AnswersInRange}
+use Rattle.lab_nodes.specs.Layouts.{Layouts}
 use Rattle.lab_nodes.specs.Nodes.{stands}
 use Rattle.node_core.specs.Requests.{IsRequested}
 use Rattle.node_core.proofs.ReplyLemmas.{answer_exchanged, reply_spelled}
@@ -22,8 +23,9 @@ use Rattle.mem_fabric.specs.declared.past.Past.{Past}
 use Rattle.mem_fabric.specs.Network.{Network, Moved, nothing_held, taken, ticked, quiet, is_to, is_by, requests_elsewhere, replies_elsewhere, broken, handed, reply_event, after_move, after_steps, after_send, after_sent, is_stopped, asked_by, is_fault, run_step, answered, MayAnswer, MayGive}
 use Rattle.mem_fabric.specs.Past.{calls_of}
 use Rattle.mem_fabric.specs.Torn.{has_torn}
-use Rattle.mem_fabric.specs.Sound.{State, told_world, IsSent, IsGiven, is_among, AllShow, IsStateOf, IsSound, network_of, KeepsState, asked_number, replied_number, RunsRequest}
-use Rattle.mem_fabric.proofs.Worlds.{goes_to, AllowedOn, AllStill, world_on, run_keeps, cells_keep, torn_keeps, after_quiet, after_now, after_cut, after_request, after_handed}
+use Rattle.mem_fabric.specs.Sound.{State, told_world, IsSent, IsGiven, is_among, AllShow, IsStateOf, IsSound, network_of, KeepsLayouts, KeepsState, asked_number, replied_number, RunsRequest}
+use Rattle.mem_fabric.proofs.Worlds.{goes_to, AllowedOn, AllStill, world_on, run_keeps, cells_keep, torn_keeps, layouts_keep, after_quiet, after_now, after_cut, after_request, after_handed}
+use Rattle.world_model.specs.declared.shape.Shape.{Shape}
 use Rattle.world_model.specs.declared.step.Called.{Called}
 use Rattle.world_model.specs.declared.step.Event.{Event}
 use Rattle.world_model.specs.declared.step.Step.{Step}
@@ -91,8 +93,14 @@ world_by past before call w told_is is = ap (λ (calls : List Called). world not
 pub keeps : (s s' : State) (steps : List Step) (given : Option Event) → AllStill steps → calls_of s'.past ≡ record { steps = steps; given = given } ∷ calls_of s.past
     → AllowedOn (told_world s.past) (items_of (record { steps = steps; given = given })) → KeepsState s s'
 keeps s s' steps given still told_is allowed = λ opening.
-    subst (λ (calls : List Called). (Run opening (told (calls_of s.past)) → Run opening (told calls)) × ((world opening (told calls)).cells ≡ (world opening (told (calls_of s.past))).cells) × (has_torn calls ≡ has_torn (calls_of s.past)))
-    (sym told_is) (run_keeps opening (calls_of s.past) steps given still allowed, cells_keep opening (calls_of s.past) steps given still, torn_keeps (calls_of s.past) steps given still)
+    subst (λ (calls : List Called). (Run opening (told (calls_of s.past)) → Run opening (told calls)) × ((world opening (told calls)).cells ≡ (world opening (told (calls_of s.past))).cells) × (has_torn calls ≡ has_torn (calls_of s.past))
+    × ((shape : Shape) (first : Layouts) → KeepsLayouts shape opening first (told (calls_of s.past)) (told calls)))
+    (sym told_is) (
+      run_keeps opening (calls_of s.past) steps given still allowed,
+      cells_keep opening (calls_of s.past) steps given still,
+      torn_keeps (calls_of s.past) steps given still,
+      λ shape first. layouts_keep shape opening first (calls_of s.past) steps given still,
+    )
 
 -- where no event waits in the state, none waits in the world
 nothing_shown : (waiting : List Made) (queue : List Event) → AllShow waiting queue → queue ≡ [] → waiting ≡ []

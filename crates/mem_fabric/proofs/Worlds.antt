@@ -5,8 +5,14 @@ use Rattle.blob_id.specs.declared.id.BlobId.{BlobId}
 use Rattle.cell_model.specs.declared.cell.Cell.{Cell}
 use Rattle.cell_model.specs.declared.cell.Cell.TheVariants.{Absent, Held, Gone}
 use Rattle.cell_model.specs.Cells.{join}
+use Rattle.lab_nodes.specs.Holding.{settings_of}
+use Rattle.lab_nodes.specs.Layouts.{Layouts}
+use Rattle.log_manifest.specs.declared.manifest.LogSettings.{LogSettings}
 use Rattle.mem_fabric.specs.Network.{nothing_held}
+use Rattle.mem_fabric.specs.Packing.{IsItemPacked, item_layouts, layouts_after}
+use Rattle.mem_fabric.specs.Sound.{KeepsLayouts}
 use Rattle.mem_fabric.specs.Torn.{is_torn, has_torn}
+use Rattle.world_model.specs.declared.shape.Shape.{Shape}
 use Rattle.world_model.specs.declared.step.Called.{Called}
 use Rattle.world_model.specs.declared.step.Event.{Event}
 use Rattle.world_model.specs.declared.step.Step.{Step}
@@ -225,6 +231,49 @@ cells_keep opening calls steps given still =
 
 pub torn_keeps : (calls : List Called) (steps : List Step) (given : Option Event) → AllStill steps → has_torn (record { steps = steps; given = given } ∷ calls) ≡ has_torn calls
 torn_keeps calls steps given still = ap (λ (b : Bool). b || has_torn calls) (calm_steps steps still)
+
+-- ---- how records are packed
+
+step_packed : (shape : Shape) (w : World) (layouts : Layouts) (step : Step) → is_still step ≡ true → IsItemPacked shape w layouts (Took step)
+step_packed shape w layouts (Step.Send from node frame) still = tt
+step_packed shape w layouts (Step.Refused node frame) still = tt
+step_packed shape w layouts (Step.Exec send reply) still = absurd cc
+step_packed shape w layouts (Step.Torn send) still = absurd cc
+step_packed shape w layouts (Step.Hand reply) still = tt
+step_packed shape w layouts (Step.Now ms) still = tt
+step_packed shape w layouts (Step.Cut node) still = tt
+step_packed shape w layouts (Step.Stop node) still = tt
+step_packed shape w layouts (Step.Restart node done) still = tt
+step_packed shape w layouts (Step.Merge node partition reply place torn) still = absurd cc
+step_packed shape w layouts (Step.Compact node partition reply) still = tt
+
+step_layouts : (settings : LogSettings) (w : World) (layouts : Layouts) (step : Step) → is_still step ≡ true → item_layouts settings w layouts (Took step) ≡ layouts
+step_layouts settings w layouts (Step.Send from node frame) still = refl
+step_layouts settings w layouts (Step.Refused node frame) still = refl
+step_layouts settings w layouts (Step.Exec send reply) still = absurd cc
+step_layouts settings w layouts (Step.Torn send) still = absurd cc
+step_layouts settings w layouts (Step.Hand reply) still = refl
+step_layouts settings w layouts (Step.Now ms) still = refl
+step_layouts settings w layouts (Step.Cut node) still = refl
+step_layouts settings w layouts (Step.Stop node) still = refl
+step_layouts settings w layouts (Step.Restart node done) still = refl
+step_layouts settings w layouts (Step.Merge node partition reply place torn) still = absurd cc
+step_layouts settings w layouts (Step.Compact node partition reply) still = refl
+
+steps_layouts : (shape : Shape) (opening : Cells) (first : Layouts) (steps : List Step) (before : Record) → AllStill steps → KeepsLayouts shape opening first before (map Took steps ++ before)
+steps_layouts shape opening first [] before still = ((λ p. p), refl)
+steps_layouts shape opening first (step ∷ steps) before still =
+    let keeps : KeepsLayouts shape opening first before (map Took steps ++ before) = steps_layouts shape opening first steps before still.0 in
+    let w : World = world opening (map Took steps ++ before) in
+    let layouts : Layouts = layouts_after (settings_of shape) opening first (map Took steps ++ before) in
+    ((λ p. (keeps.0 p, step_packed shape w layouts step still.1)), step_layouts (settings_of shape) w layouts step still.1 ∙ keeps.1)
+
+-- a call of such steps leaves how records are packed
+pub layouts_keep : (shape : Shape) (opening : Cells) (first : Layouts) (calls : List Called) (steps : List Step) (given : Option Event) → AllStill steps → KeepsLayouts shape opening first (told calls) (told (record { steps = steps; given = given } ∷ calls))
+layouts_keep shape opening first calls steps None still = steps_layouts shape opening first steps (told calls) still
+layouts_keep shape opening first calls steps (Some event) still =
+    let keeps : KeepsLayouts shape opening first (told calls) (map Took steps ++ told calls) = steps_layouts shape opening first steps (told calls) still in
+    ((λ p. (keeps.0 p, tt)), keeps.1)
 
 -- ---- doubts
 

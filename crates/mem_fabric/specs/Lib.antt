@@ -4,6 +4,7 @@ pub mod Past
 pub mod Asking
 pub mod Torn
 pub mod Runs
+pub mod Packing
 pub mod Sound
 pub mod Going
 pub mod Acting

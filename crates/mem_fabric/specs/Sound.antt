@@ -11,12 +11,16 @@ use Rattle.mem_fabric.specs.declared.flight.Asked.{Asked}
 use Rattle.mem_fabric.specs.declared.flight.Replied.{Replied}
 use Rattle.mem_fabric.specs.declared.past.Past.{Past, Begun}
 use Rattle.mem_fabric.specs.Network.{Network, nothing_held, MayGive, runs_at, ran, after_move}
+use Rattle.lab_nodes.specs.Holding.{settings_of}
+use Rattle.lab_nodes.specs.Layouts.{Layouts}
+use Rattle.mem_fabric.specs.Packing.{AllPacked, layouts_after}
 use Rattle.mem_fabric.specs.Past.{calls_of}
 use Rattle.mem_fabric.specs.Torn.{has_torn}
 use Rattle.world_model.specs.declared.shape.Shape.{Shape}
 use Rattle.world_model.specs.declared.step.Event.{Event}
 use Rattle.world_model.specs.Frames.{frame_in}
 use Rattle.world_model.specs.Lists.{numbered}
+use Rattle.world_model.specs.Record.{Record}
 use Rattle.world_model.specs.Shape.{IsShape}
 use Rattle.world_model.specs.Told.{told}
 use Rattle.world_model.specs.World.{Cells, World, Request, Answered, Made, Shows, world, Run}
@@ -96,12 +100,19 @@ replied_number replied = replied.number
 abbrev pub network_of : State → Network
 network_of s = record { shape = s.shape; calls = calls_of s.past; requests = map asked_number s.requests; replies = map replied_number s.replies; queue = s.queue }
 
--- Where what was told was a run, from whatever cells, it still is one, and what is held and in doubt stays.
+-- what was packed still is, and the layouts stay
+abbrev pub KeepsLayouts : Shape → Cells → Layouts → (old new : Record) → Type 0
+KeepsLayouts shape opening first old new =
+    (AllPacked shape opening first old → AllPacked shape opening first new)
+    × (layouts_after (settings_of shape) opening first new ≡ layouts_after (settings_of shape) opening first old)
+
+-- Where what was told was a run, from whatever cells, it still is one, and what is held and in doubt stays, and how it is packed.
 abbrev pub KeepsState : State → State → Type 0
 KeepsState old new = (opening : Cells)
     → (Run opening (told (calls_of old.past)) → Run opening (told (calls_of new.past)))
     × ((world opening (told (calls_of new.past))).cells ≡ (world opening (told (calls_of old.past))).cells)
     × (has_torn (calls_of new.past) ≡ has_torn (calls_of old.past))
+    × ((shape : Shape) (first : Layouts) → KeepsLayouts shape opening first (told (calls_of old.past)) (told (calls_of new.past)))
 
 -- the frame of a request asks this
 abbrev pub AskedAs : Option Asked → Question → Type 0

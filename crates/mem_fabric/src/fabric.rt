@@ -2,6 +2,7 @@
 
 ghost use Rattle.std.specs.Prelude.{◌≡◌, ℕ, ◌≤◌, List, [], true, false, Some, None, IsSome, IfOk, OnOk, OnErr, IsErrOf, cond};
 ghost use Rattle.std.specs.Option.{is_some};
+ghost use Rattle.lab_nodes.specs.Layouts.{HomeHasLayouts, Layouts};
 ghost use Rattle.lab_nodes.specs.Nodes.{AllTidy, HomeHolds, is_up, never_opened};
 ghost use Rattle.lab_nodes.specs.Spots.{DiskFailed, HasFailed};
 ghost use Rattle.lab_nodes.specs.Starting.{IsFirst};
@@ -9,6 +10,7 @@ ghost use Rattle.lab_nodes.specs.declared.places.Which.{Which};
 ghost use Rattle.outside.specs.Causes.{Rose};
 ghost use Rattle.mem_fabric.specs.Going.{AreNodesOf, GoesOn, HasTornBy, KeepsBays};
 ghost use Rattle.mem_fabric.specs.Network.{is_stopped};
+ghost use Rattle.mem_fabric.specs.Packing.{KeepsPacking, PacksFrom};
 ghost use Rattle.mem_fabric.specs.Past.{calls_of};
 ghost use Rattle.mem_fabric.specs.Played.{Plays, Falls, AtMostOne};
 ghost use Rattle.mem_fabric.specs.Runs.{RunsFrom};
@@ -67,6 +69,8 @@ where
         ensures nodes { result.nodes ≡ never_opened bays }
         ensures faults { result.faults ≡ 0 }
         ensures holds { (shape : Shape) (folder : List ℕ) (opening : Cells) → (B.Disk.tells → HomeHolds B.Disk.content B.home shape folder bays opening) → ⟦<MemFabric<B, M> as Fabric>⟧.runs result shape folder opening }
+        ensures packs { (shape : Shape) (folder : List ℕ) (opening : Cells) (first : Layouts) → (B.Disk.tells → HomeHolds B.Disk.content B.home shape folder bays opening) → (B.Disk.tells → HomeHasLayouts B.Disk.content B.home shape folder bays first)
+            → PacksFrom B.Disk.tells B.Disk.content B.home [] result.nodes shape folder opening first }
     {
         let handed = Handed::of(&bays);
         MemFabric {
@@ -105,8 +109,8 @@ where
         ensures told { IfOk result (λ event. Tells (Some (calls_of self.old.cluster.past)) (Some (calls_of self.new.cluster.past)) (Gave event)) }
         ensures err { OnErr result (Some (calls_of self.new.cluster.past) ≡ Some (calls_of self.old.cluster.past)) }
         ensures run { (cluster : Shape) (place : List ℕ) → KeepsRun (RunsFrom B.Disk.tells B.Disk.content B.home (calls_of self.old.cluster.past) self.old.nodes cluster place) (RunsFrom B.Disk.tells B.Disk.content B.home (calls_of self.new.cluster.past) self.new.nodes cluster place) }
-        ensures goes { OnOk result (Plays (M.given self.old.moves) (network_of self.old.cluster) (M.given self.new.moves) (network_of self.new.cluster) × M.same self.old.moves self.new.moves × (M.seeds self.new.moves ≡ M.seeds self.old.moves) × KeepsBays B.tells B.out B.same self.old.nodes self.new.nodes) }
-        ensures falls { Falls (M.given self.old.moves) (network_of self.old.cluster) (M.given self.new.moves) (network_of self.new.cluster) × M.same self.old.moves self.new.moves × (M.seeds self.new.moves ≡ M.seeds self.old.moves) × KeepsBays B.tells B.out B.same self.old.nodes self.new.nodes }
+        ensures goes { OnOk result (Plays (M.given self.old.moves) (network_of self.old.cluster) (M.given self.new.moves) (network_of self.new.cluster) × M.same self.old.moves self.new.moves × (M.seeds self.new.moves ≡ M.seeds self.old.moves) × KeepsBays B.tells B.Disk.tells B.Disk.content B.home B.out B.same self.old.nodes self.new.nodes × KeepsPacking B.Disk.tells B.Disk.content B.home (calls_of self.old.cluster.past) self.old.nodes (calls_of self.new.cluster.past) self.new.nodes) }
+        ensures falls { Falls (M.given self.old.moves) (network_of self.old.cluster) (M.given self.new.moves) (network_of self.new.cluster) × M.same self.old.moves self.new.moves × (M.seeds self.new.moves ≡ M.seeds self.old.moves) × KeepsBays B.tells B.Disk.tells B.Disk.content B.home B.out B.same self.old.nodes self.new.nodes × KeepsPacking B.Disk.tells B.Disk.content B.home (calls_of self.old.cluster.past) self.old.nodes (calls_of self.new.cluster.past) self.new.nodes }
         ensures most { OnErr result (AtMostOne (M.given self.old.moves) (M.given self.new.moves)) }
         ensures count { self.new.faults ≡ self.old.faults }
     {
@@ -127,7 +131,7 @@ where
     B::Disk: Drop,
 {
     ghost use Rattle.std.proofs.Common.{◌∙◌, refl};
-    ghost use Rattle.mem_fabric.specs.GoingLaws.{bays_stay, bays_on};
+    ghost use Rattle.mem_fabric.specs.GoingLaws.{bays_stay, bays_on, packing_stays, packing_on};
 
     ghost faults = { λ f. f.faults };
 
@@ -141,9 +145,9 @@ where
 
     ghost runs = { λ f shape folder opening. RunsFrom B.Disk.tells B.Disk.content B.home (calls_of f.cluster.past) f.nodes shape folder opening };
 
-    ghost goes = { λ f g. Plays (M.given f.moves) (network_of f.cluster) (M.given g.moves) (network_of g.cluster) × M.same f.moves g.moves × (M.seeds g.moves ≡ M.seeds f.moves) × KeepsBays B.tells B.out B.same f.nodes g.nodes };
+    ghost goes = { λ f g. Plays (M.given f.moves) (network_of f.cluster) (M.given g.moves) (network_of g.cluster) × M.same f.moves g.moves × (M.seeds g.moves ≡ M.seeds f.moves) × KeepsBays B.tells B.Disk.tells B.Disk.content B.home B.out B.same f.nodes g.nodes × KeepsPacking B.Disk.tells B.Disk.content B.home (calls_of f.cluster.past) f.nodes (calls_of g.cluster.past) g.nodes };
 
-    ghost falls = { λ f g. Falls (M.given f.moves) (network_of f.cluster) (M.given g.moves) (network_of g.cluster) × M.same f.moves g.moves × (M.seeds g.moves ≡ M.seeds f.moves) × KeepsBays B.tells B.out B.same f.nodes g.nodes };
+    ghost falls = { λ f g. Falls (M.given f.moves) (network_of f.cluster) (M.given g.moves) (network_of g.cluster) × M.same f.moves g.moves × (M.seeds g.moves ≡ M.seeds f.moves) × KeepsBays B.tells B.Disk.tells B.Disk.content B.home B.out B.same f.nodes g.nodes × KeepsPacking B.Disk.tells B.Disk.content B.home (calls_of f.cluster.past) f.nodes (calls_of g.cluster.past) g.nodes };
 
     /// Opens it for a shape whose disks lie in a folder, all or none: the first disk that isn't opened decides, by node and then by
     /// partition. It is tried once.
@@ -156,12 +160,14 @@ where
         ensures told { OnOk result (Tells (Some (calls_of self.old.cluster.past)) (Some (calls_of self.new.cluster.past)) DidNothing) }
         ensures err { OnErr result (Some (calls_of self.new.cluster.past) ≡ Some (calls_of self.old.cluster.past)) }
         ensures run { OnOk result (KeepsRun (RunsFrom B.Disk.tells B.Disk.content B.home (calls_of self.old.cluster.past) self.old.nodes shape.now folder.now) (RunsFrom B.Disk.tells B.Disk.content B.home (calls_of self.new.cluster.past) self.new.nodes shape.now folder.now)) }
-        ensures goes { OnOk result (Plays (M.given self.old.moves) (network_of self.old.cluster) (M.given self.new.moves) (network_of self.new.cluster) × M.same self.old.moves self.new.moves × (M.seeds self.new.moves ≡ M.seeds self.old.moves) × KeepsBays B.tells B.out B.same self.old.nodes self.new.nodes) }
-        ensures falls { Falls (M.given self.old.moves) (network_of self.old.cluster) (M.given self.new.moves) (network_of self.new.cluster) × M.same self.old.moves self.new.moves × (M.seeds self.new.moves ≡ M.seeds self.old.moves) × KeepsBays B.tells B.out B.same self.old.nodes self.new.nodes }
+        ensures goes { OnOk result (Plays (M.given self.old.moves) (network_of self.old.cluster) (M.given self.new.moves) (network_of self.new.cluster) × M.same self.old.moves self.new.moves × (M.seeds self.new.moves ≡ M.seeds self.old.moves) × KeepsBays B.tells B.Disk.tells B.Disk.content B.home B.out B.same self.old.nodes self.new.nodes × KeepsPacking B.Disk.tells B.Disk.content B.home (calls_of self.old.cluster.past) self.old.nodes (calls_of self.new.cluster.past) self.new.nodes) }
+        ensures falls { Falls (M.given self.old.moves) (network_of self.old.cluster) (M.given self.new.moves) (network_of self.new.cluster) × M.same self.old.moves self.new.moves × (M.seeds self.new.moves ≡ M.seeds self.old.moves) × KeepsBays B.tells B.Disk.tells B.Disk.content B.home B.out B.same self.old.nodes self.new.nodes × KeepsPacking B.Disk.tells B.Disk.content B.home (calls_of self.old.cluster.past) self.old.nodes (calls_of self.new.cluster.past) self.new.nodes }
         ensures count { (IsErrOf result StartFault.Failed → ⊥) → self.new.faults ≡ self.old.faults }
         ensures failed { IsErrOf result StartFault.Failed → HasFailed B.Disk.faults (B.faults self.old.nodes.bays) (B.faults self.new.nodes.bays) }
         ensures refused { (refusal : Refusal) → IsErrOf result (StartFault.Refused refusal) → B.tells → IsFirst B.Disk.tells B.Disk.content B.Disk.size Which.All shape.now folder.now (B.home self.old.nodes.bays) refusal }
         ensures stays { OnErr result (B.Disk.tells → (cells : Cells) → HomeHolds B.Disk.content B.home shape.now folder.now self.old.nodes.bays cells → HomeHolds B.Disk.content B.home shape.now folder.now self.new.nodes.bays cells) }
+        ensures standing { OnOk result (IsSome self.new.nodes.shape) }
+        ensures packing { (opening : Cells) (first : Layouts) → PacksFrom B.Disk.tells B.Disk.content B.home (calls_of self.old.cluster.past) self.old.nodes shape.now folder.now opening first → PacksFrom B.Disk.tells B.Disk.content B.home (calls_of self.new.cluster.past) self.new.nodes shape.now folder.now opening first }
         ensures shut { OnErr result ((n p : ℕ) → is_up self.new.nodes n p ≡ false) }
         ensures unmoved { OnErr result (self.new.moves ≡ self.old.moves) }
         ensures later_bays { B.faults self.old.nodes.bays ≤ B.faults self.new.nodes.bays }
@@ -191,8 +197,8 @@ where
         ensures opened { cond self.new.opened self.new.cluster.shape None ≡ cond self.old.opened self.old.cluster.shape None }
         ensures told { TellsSend result (Some (calls_of self.old.cluster.past)) (Some (calls_of self.new.cluster.past)) node frame.now }
         ensures run { (cluster : Shape) (place : List ℕ) → KeepsRun (RunsFrom B.Disk.tells B.Disk.content B.home (calls_of self.old.cluster.past) self.old.nodes cluster place) (RunsFrom B.Disk.tells B.Disk.content B.home (calls_of self.new.cluster.past) self.new.nodes cluster place) }
-        ensures goes { (IsErrOf result SendFault.Memory → ⊥) → Plays (M.given self.old.moves) (network_of self.old.cluster) (M.given self.new.moves) (network_of self.new.cluster) × M.same self.old.moves self.new.moves × (M.seeds self.new.moves ≡ M.seeds self.old.moves) × KeepsBays B.tells B.out B.same self.old.nodes self.new.nodes }
-        ensures falls { Falls (M.given self.old.moves) (network_of self.old.cluster) (M.given self.new.moves) (network_of self.new.cluster) × M.same self.old.moves self.new.moves × (M.seeds self.new.moves ≡ M.seeds self.old.moves) × KeepsBays B.tells B.out B.same self.old.nodes self.new.nodes }
+        ensures goes { (IsErrOf result SendFault.Memory → ⊥) → Plays (M.given self.old.moves) (network_of self.old.cluster) (M.given self.new.moves) (network_of self.new.cluster) × M.same self.old.moves self.new.moves × (M.seeds self.new.moves ≡ M.seeds self.old.moves) × KeepsBays B.tells B.Disk.tells B.Disk.content B.home B.out B.same self.old.nodes self.new.nodes × KeepsPacking B.Disk.tells B.Disk.content B.home (calls_of self.old.cluster.past) self.old.nodes (calls_of self.new.cluster.past) self.new.nodes }
+        ensures falls { Falls (M.given self.old.moves) (network_of self.old.cluster) (M.given self.new.moves) (network_of self.new.cluster) × M.same self.old.moves self.new.moves × (M.seeds self.new.moves ≡ M.seeds self.old.moves) × KeepsBays B.tells B.Disk.tells B.Disk.content B.home B.out B.same self.old.nodes self.new.nodes × KeepsPacking B.Disk.tells B.Disk.content B.home (calls_of self.old.cluster.past) self.old.nodes (calls_of self.new.cluster.past) self.new.nodes }
         ensures refused { IsErrOf result SendFault.Failed → is_stopped (network_of self.old.cluster) node ≡ true }
         ensures ok { OnOk result (is_stopped (network_of self.old.cluster) node ≡ false) }
         ensures count { (IsErrOf result SendFault.Failed → ⊥) → self.new.faults ≡ self.old.faults }
@@ -222,8 +228,8 @@ where
         ensures told { IfOk result (λ event. Tells (Some (calls_of self.old.cluster.past)) (Some (calls_of self.new.cluster.past)) (Gave event)) }
         ensures err { OnErr result (Some (calls_of self.new.cluster.past) ≡ Some (calls_of self.old.cluster.past)) }
         ensures run { (cluster : Shape) (place : List ℕ) → KeepsRun (RunsFrom B.Disk.tells B.Disk.content B.home (calls_of self.old.cluster.past) self.old.nodes cluster place) (RunsFrom B.Disk.tells B.Disk.content B.home (calls_of self.new.cluster.past) self.new.nodes cluster place) }
-        ensures goes { OnOk result (Plays (M.given self.old.moves) (network_of self.old.cluster) (M.given self.new.moves) (network_of self.new.cluster) × M.same self.old.moves self.new.moves × (M.seeds self.new.moves ≡ M.seeds self.old.moves) × KeepsBays B.tells B.out B.same self.old.nodes self.new.nodes) }
-        ensures falls { Falls (M.given self.old.moves) (network_of self.old.cluster) (M.given self.new.moves) (network_of self.new.cluster) × M.same self.old.moves self.new.moves × (M.seeds self.new.moves ≡ M.seeds self.old.moves) × KeepsBays B.tells B.out B.same self.old.nodes self.new.nodes }
+        ensures goes { OnOk result (Plays (M.given self.old.moves) (network_of self.old.cluster) (M.given self.new.moves) (network_of self.new.cluster) × M.same self.old.moves self.new.moves × (M.seeds self.new.moves ≡ M.seeds self.old.moves) × KeepsBays B.tells B.Disk.tells B.Disk.content B.home B.out B.same self.old.nodes self.new.nodes × KeepsPacking B.Disk.tells B.Disk.content B.home (calls_of self.old.cluster.past) self.old.nodes (calls_of self.new.cluster.past) self.new.nodes) }
+        ensures falls { Falls (M.given self.old.moves) (network_of self.old.cluster) (M.given self.new.moves) (network_of self.new.cluster) × M.same self.old.moves self.new.moves × (M.seeds self.new.moves ≡ M.seeds self.old.moves) × KeepsBays B.tells B.Disk.tells B.Disk.content B.home B.out B.same self.old.nodes self.new.nodes × KeepsPacking B.Disk.tells B.Disk.content B.home (calls_of self.old.cluster.past) self.old.nodes (calls_of self.new.cluster.past) self.new.nodes }
         ensures most { OnErr result (AtMostOne (M.given self.old.moves) (M.given self.new.moves)) }
         ensures count { self.new.faults ≡ self.old.faults }
     {
@@ -242,8 +248,8 @@ where
         ensures opened { cond self.new.opened self.new.cluster.shape None ≡ cond self.old.opened self.old.cluster.shape None }
         ensures told { TellsOrder result (Some (calls_of self.old.cluster.past)) (Some (calls_of self.new.cluster.past)) order.now }
         ensures run { (cluster : Shape) (place : List ℕ) → KeepsRun (RunsFrom B.Disk.tells B.Disk.content B.home (calls_of self.old.cluster.past) self.old.nodes cluster place) (RunsFrom B.Disk.tells B.Disk.content B.home (calls_of self.new.cluster.past) self.new.nodes cluster place) }
-        ensures goes { (IsErrOf result SendFault.Memory → ⊥) → Plays (M.given self.old.moves) (network_of self.old.cluster) (M.given self.new.moves) (network_of self.new.cluster) × M.same self.old.moves self.new.moves × (M.seeds self.new.moves ≡ M.seeds self.old.moves) × KeepsBays B.tells B.out B.same self.old.nodes self.new.nodes }
-        ensures falls { Falls (M.given self.old.moves) (network_of self.old.cluster) (M.given self.new.moves) (network_of self.new.cluster) × M.same self.old.moves self.new.moves × (M.seeds self.new.moves ≡ M.seeds self.old.moves) × KeepsBays B.tells B.out B.same self.old.nodes self.new.nodes }
+        ensures goes { (IsErrOf result SendFault.Memory → ⊥) → Plays (M.given self.old.moves) (network_of self.old.cluster) (M.given self.new.moves) (network_of self.new.cluster) × M.same self.old.moves self.new.moves × (M.seeds self.new.moves ≡ M.seeds self.old.moves) × KeepsBays B.tells B.Disk.tells B.Disk.content B.home B.out B.same self.old.nodes self.new.nodes × KeepsPacking B.Disk.tells B.Disk.content B.home (calls_of self.old.cluster.past) self.old.nodes (calls_of self.new.cluster.past) self.new.nodes }
+        ensures falls { Falls (M.given self.old.moves) (network_of self.old.cluster) (M.given self.new.moves) (network_of self.new.cluster) × M.same self.old.moves self.new.moves × (M.seeds self.new.moves ≡ M.seeds self.old.moves) × KeepsBays B.tells B.Disk.tells B.Disk.content B.home B.out B.same self.old.nodes self.new.nodes × KeepsPacking B.Disk.tells B.Disk.content B.home (calls_of self.old.cluster.past) self.old.nodes (calls_of self.new.cluster.past) self.new.nodes }
         ensures never { IsErrOf result SendFault.Failed → ⊥ }
         ensures stuck { IfOk result (λ answer. answer ≡ Told.Stuck PullCause.Fault → HasFailed B.Disk.faults (B.faults self.old.nodes.bays) (B.faults self.new.nodes.bays)) }
         ensures later_bays { B.faults self.old.nodes.bays ≤ B.faults self.new.nodes.bays }
@@ -266,7 +272,7 @@ where
         ensures opened { cond self.new.opened self.new.cluster.shape None ≡ None }
         ensures told { Some (calls_of self.new.cluster.past) ≡ Some (calls_of self.old.cluster.past) }
         ensures run { (cluster : Shape) (place : List ℕ) → KeepsRun (RunsFrom B.Disk.tells B.Disk.content B.home (calls_of self.old.cluster.past) self.old.nodes cluster place) (RunsFrom B.Disk.tells B.Disk.content B.home (calls_of self.new.cluster.past) self.new.nodes cluster place) }
-        ensures goes { Plays (M.given self.old.moves) (network_of self.old.cluster) (M.given self.new.moves) (network_of self.new.cluster) × M.same self.old.moves self.new.moves × (M.seeds self.new.moves ≡ M.seeds self.old.moves) × KeepsBays B.tells B.out B.same self.old.nodes self.new.nodes }
+        ensures goes { Plays (M.given self.old.moves) (network_of self.old.cluster) (M.given self.new.moves) (network_of self.new.cluster) × M.same self.old.moves self.new.moves × (M.seeds self.new.moves ≡ M.seeds self.old.moves) × KeepsBays B.tells B.Disk.tells B.Disk.content B.home B.out B.same self.old.nodes self.new.nodes × KeepsPacking B.Disk.tells B.Disk.content B.home (calls_of self.old.cluster.past) self.old.nodes (calls_of self.new.cluster.past) self.new.nodes }
         ensures count { self.new.faults ≡ self.old.faults }
         ensures home { (n p : ℕ) → is_up self.new.nodes n p ≡ false }
         ensures torn { has_torn (calls_of self.new.cluster.past) ≡ true → B.Disk.tells → ∥ DiskFailed B.Disk.faults ∥₁ }
@@ -280,21 +286,23 @@ where
 
     ghost runs_by_rules = { λ a cluster place opening k r. (r k.0 k.1).run };
 
-    ghost goes_nowhere = { λ f. (plays_nothing (M.given f.moves) (network_of f.cluster), M.same_self f.moves, refl, bays_stay B.tells B.out B.same f.nodes (B.same_self f.nodes.bays)) };
+    ghost goes_nowhere = { λ f. (plays_nothing (M.given f.moves) (network_of f.cluster), M.same_self f.moves, refl, bays_stay B.tells B.Disk.tells B.Disk.content B.home B.out B.same f.nodes (B.same_self f.nodes.bays), packing_stays B.Disk.tells B.Disk.content B.home (calls_of f.cluster.past) f.nodes) };
 
     ghost goes_on = { λ f g h p q. (
       plays_on (M.given f.moves) (network_of f.cluster) (M.given g.moves) (network_of g.cluster) (M.given h.moves) (network_of h.cluster) p.0 q.0,
       M.same_on f.moves g.moves h.moves p.1 q.1,
       q.2 ∙ p.2,
-      bays_on B.tells B.out B.same f.nodes g.nodes h.nodes (B.same_on f.nodes.bays g.nodes.bays h.nodes.bays) p.3 q.3,
+      bays_on B.tells B.Disk.tells B.Disk.content B.home B.out B.same f.nodes g.nodes h.nodes (B.same_on f.nodes.bays g.nodes.bays h.nodes.bays) p.3 q.3,
+      packing_on B.Disk.tells B.Disk.content B.home (calls_of f.cluster.past) f.nodes (calls_of g.cluster.past) g.nodes (calls_of h.cluster.past) h.nodes p.4 q.4,
     ) };
 
-    ghost falls_as_it_goes = { λ f g p. (falls_as_plays (M.given f.moves) (network_of f.cluster) (M.given g.moves) (network_of g.cluster) p.0, p.1, p.2, p.3) };
+    ghost falls_as_it_goes = { λ f g p. (falls_as_plays (M.given f.moves) (network_of f.cluster) (M.given g.moves) (network_of g.cluster) p.0, p.1, p.2, p.3, p.4) };
 
     ghost falls_on = { λ f g h p q. (
       falls_on (M.given f.moves) (network_of f.cluster) (M.given g.moves) (network_of g.cluster) (M.given h.moves) (network_of h.cluster) p.0 q.0,
       M.same_on f.moves g.moves h.moves p.1 q.1,
       q.2 ∙ p.2,
-      bays_on B.tells B.out B.same f.nodes g.nodes h.nodes (B.same_on f.nodes.bays g.nodes.bays h.nodes.bays) p.3 q.3,
+      bays_on B.tells B.Disk.tells B.Disk.content B.home B.out B.same f.nodes g.nodes h.nodes (B.same_on f.nodes.bays g.nodes.bays h.nodes.bays) p.3 q.3,
+      packing_on B.Disk.tells B.Disk.content B.home (calls_of f.cluster.past) f.nodes (calls_of g.cluster.past) g.nodes (calls_of h.cluster.past) h.nodes p.4 q.4,
     ) };
 }

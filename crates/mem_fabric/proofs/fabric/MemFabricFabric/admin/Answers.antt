@@ -15,6 +15,7 @@ returns-in-Ok-clause-goes g c = λ _. (
   g.met.M.Moves.same_self c.args.self.now.moves,
   refl,
   c.in-Ok.ensures.goes.bays,
+  c.in-Ok.ensures.goes.packing,
 )
 
 pub returns-in-Ok-clause-falls : goal.returns-in-Ok-clause-falls
@@ -25,4 +26,5 @@ returns-in-Ok-clause-falls g c = (
   g.met.M.Moves.same_self c.args.self.now.moves,
   refl,
   c.in-Ok.ensures.goes.bays,
+  c.in-Ok.ensures.goes.packing,
 )

@@ -1,12 +1,14 @@
 use Rattle.std.proofs.Common.{◌≡◌, Err, ap, refl, subst, sym}
+use Rattle.std.specs.Option.{is_some}
 use Rattle.lab_nodes.specs.Holding.{settings_of}
 use Rattle.lab_nodes.specs.Nodes.{AllTidy, is_up}
 use Rattle.lab_nodes.specs.Starting.{IsFirst}
 use Rattle.lab_nodes.specs.declared.fault.NodesFault.{NodesFault}
 use Rattle.lab_nodes.specs.declared.places.Which.{Which}
+use Rattle.mem_fabric.specs.Past.{calls_of}
 use Rattle.mem_fabric.specs.PlayedLaws.{falls_as_plays}
 use Rattle.mem_fabric.specs.Sound.{network_of}
-use Rattle.mem_fabric.proofs.Goes.{home_stays, run_at}
+use Rattle.mem_fabric.proofs.Goes.{home_stays, keeps_itself, packing_fresh, packs_at, run_at}
 use Rattle.mem_fabric.proofs.Playing.{plays_open}
 use Rattle.mem_fabric.proofs.fabric.MemFabricFabric.open.Goals as goal
 use Rattle.world_model.specs.declared.order.Refusal.{Refusal}
@@ -25,7 +27,8 @@ returns-in-Ok-clause-goes g c = (
   plays_open (g.M.Moves.given c.args.self.now.moves) c.args.self.now.cluster c.open-in-Ok.new.self c.args.shape.now (c.args.self.now.empty c.requires.fresh) c.open-in-Ok.ensures.network,
   g.met.M.Moves.same_self c.args.self.now.moves,
   refl,
-  record { same_bays = c.open.ensures.same; own = c.open.ensures.out },
+  record { same_bays = c.open.ensures.same; own = c.open.ensures.out; tidy = c.open.ensures.tidy_again },
+  packing_fresh g.B.Disk.Disk.tells g.B.Disk.Disk.content g.B.Bays.home c.args.self.now.nodes c.open.new.self (calls_of c.args.self.now.cluster.past) (calls_of c.open-in-Ok.new.self.past) (c.args.self.now.unopened c.requires.fresh),
 )
 
 pub returns-in-Ok-clause-falls : goal.returns-in-Ok-clause-falls
@@ -34,7 +37,8 @@ returns-in-Ok-clause-falls g c = (
       (plays_open (g.M.Moves.given c.args.self.now.moves) c.args.self.now.cluster c.open-in-Ok.new.self c.args.shape.now (c.args.self.now.empty c.requires.fresh) c.open-in-Ok.ensures.network),
   g.met.M.Moves.same_self c.args.self.now.moves,
   refl,
-  record { same_bays = c.open.ensures.same; own = c.open.ensures.out },
+  record { same_bays = c.open.ensures.same; own = c.open.ensures.out; tidy = c.open.ensures.tidy_again },
+  packing_fresh g.B.Disk.Disk.tells g.B.Disk.Disk.content g.B.Bays.home c.args.self.now.nodes c.open.new.self (calls_of c.args.self.now.cluster.past) (calls_of c.open-in-Ok.new.self.past) (c.args.self.now.unopened c.requires.fresh),
 )
 
 pub returns-in-Err-Refused-clause-refused : goal.returns-in-Err-Refused-clause-refused
@@ -63,3 +67,22 @@ returns-in-Err-Refused-clause-shut g c = λ n p. ap (λ (s : _). is_up s n p) c.
 
 pub returns-in-Err-Memory-clause-shut : goal.returns-in-Err-Memory-clause-shut
 returns-in-Err-Memory-clause-shut g c = λ n p. ap (λ (s : _). is_up s n p) c.in-Err-Memory.ensures.err
+
+pub returns-in-Ok-clause-standing : goal.returns-in-Ok-clause-standing
+returns-in-Ok-clause-standing g c = ap is_some c.in-Ok.ensures.named.0
+
+pub returns-in-Ok-clause-packing : goal.returns-in-Ok-clause-packing
+returns-in-Ok-clause-packing g c =
+    packs_at g.B.Bays.tells g.B.Disk.Disk.tells g.B.Disk.Disk.content g.B.Disk.Disk.faults g.B.Bays.home g.B.Bays.out g.B.Bays.same c.args.self.now.cluster c.open-in-Ok.new.self c.args.self.now.nodes c.open.new.self c.args.shape.now c.args.folder.now c.open-in-Ok.ensures.run c.open.ensures.holds c.open.ensures.layouts
+
+pub returns-in-Err-Failed-clause-packing : goal.returns-in-Err-Failed-clause-packing
+returns-in-Err-Failed-clause-packing g c =
+    packs_at g.B.Bays.tells g.B.Disk.Disk.tells g.B.Disk.Disk.content g.B.Disk.Disk.faults g.B.Bays.home g.B.Bays.out g.B.Bays.same c.args.self.now.cluster c.args.self.now.cluster c.args.self.now.nodes c.open.new.self c.args.shape.now c.args.folder.now (keeps_itself c.args.self.now.cluster) c.open.ensures.holds c.open.ensures.layouts
+
+pub returns-in-Err-Refused-clause-packing : goal.returns-in-Err-Refused-clause-packing
+returns-in-Err-Refused-clause-packing g c =
+    packs_at g.B.Bays.tells g.B.Disk.Disk.tells g.B.Disk.Disk.content g.B.Disk.Disk.faults g.B.Bays.home g.B.Bays.out g.B.Bays.same c.args.self.now.cluster c.args.self.now.cluster c.args.self.now.nodes c.open.new.self c.args.shape.now c.args.folder.now (keeps_itself c.args.self.now.cluster) c.open.ensures.holds c.open.ensures.layouts
+
+pub returns-in-Err-Memory-clause-packing : goal.returns-in-Err-Memory-clause-packing
+returns-in-Err-Memory-clause-packing g c =
+    packs_at g.B.Bays.tells g.B.Disk.Disk.tells g.B.Disk.Disk.content g.B.Disk.Disk.faults g.B.Bays.home g.B.Bays.out g.B.Bays.same c.args.self.now.cluster c.args.self.now.cluster c.args.self.now.nodes c.open.new.self c.args.shape.now c.args.folder.now (keeps_itself c.args.self.now.cluster) c.open.ensures.holds c.open.ensures.layouts

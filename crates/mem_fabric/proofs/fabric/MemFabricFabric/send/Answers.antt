@@ -2,6 +2,7 @@ use Rattle.std.proofs.Common.{refl}
 use Rattle.mem_fabric.specs.GoingLaws.{bays_stay}
 use Rattle.mem_fabric.specs.PlayedLaws.{falls_as_plays}
 use Rattle.mem_fabric.specs.Sound.{network_of}
+use Rattle.mem_fabric.proofs.Goes.{packing_kept}
 use Rattle.mem_fabric.proofs.Playing.{plays_send, has_node}
 use Rattle.mem_fabric.proofs.fabric.MemFabricFabric.send.Goals as goal
 
@@ -11,7 +12,8 @@ returns-in-Ok-clause-goes g c = λ _. (
       (has_node c.args.self.now.opened c.args.self.now.cluster.shape c.args.node c.requires.node) c.in-Ok.ensures.ok,
   g.met.M.Moves.same_self c.args.self.now.moves,
   refl,
-  bays_stay g.B.Bays.tells g.B.Bays.out g.B.Bays.same c.args.self.now.nodes (g.met.B.Bays.same_self c.args.self.now.nodes.bays),
+  bays_stay g.B.Bays.tells g.B.Disk.Disk.tells g.B.Disk.Disk.content g.B.Bays.home g.B.Bays.out g.B.Bays.same c.args.self.now.nodes (g.met.B.Bays.same_self c.args.self.now.nodes.bays),
+  packing_kept g.B.Bays.tells g.B.Disk.Disk.tells g.B.Disk.Disk.content g.B.Disk.Disk.faults g.B.Bays.home g.B.Bays.out g.B.Bays.same c.args.self.now.cluster c.refuse.new.self c.args.self.now.nodes c.refuse.ensures.run,
 )
 
 pub returns-in-Ok-clause-falls : goal.returns-in-Ok-clause-falls
@@ -21,7 +23,8 @@ returns-in-Ok-clause-falls g c = (
       (has_node c.args.self.now.opened c.args.self.now.cluster.shape c.args.node c.requires.node) c.in-Ok.ensures.ok),
   g.met.M.Moves.same_self c.args.self.now.moves,
   refl,
-  bays_stay g.B.Bays.tells g.B.Bays.out g.B.Bays.same c.args.self.now.nodes (g.met.B.Bays.same_self c.args.self.now.nodes.bays),
+  bays_stay g.B.Bays.tells g.B.Disk.Disk.tells g.B.Disk.Disk.content g.B.Bays.home g.B.Bays.out g.B.Bays.same c.args.self.now.nodes (g.met.B.Bays.same_self c.args.self.now.nodes.bays),
+  packing_kept g.B.Bays.tells g.B.Disk.Disk.tells g.B.Disk.Disk.content g.B.Disk.Disk.faults g.B.Bays.home g.B.Bays.out g.B.Bays.same c.args.self.now.cluster c.refuse.new.self c.args.self.now.nodes c.refuse.ensures.run,
 )
 
 pub returns-in-Ok-send-clause-goes : goal.returns-in-Ok-send-clause-goes
@@ -30,7 +33,8 @@ returns-in-Ok-send-clause-goes g c = λ _. (
       (has_node c.args.self.now.opened c.args.self.now.cluster.shape c.args.node c.requires.node) c.in-Ok-send.ensures.ok,
   g.met.M.Moves.same_self c.args.self.now.moves,
   refl,
-  bays_stay g.B.Bays.tells g.B.Bays.out g.B.Bays.same c.args.self.now.nodes (g.met.B.Bays.same_self c.args.self.now.nodes.bays),
+  bays_stay g.B.Bays.tells g.B.Disk.Disk.tells g.B.Disk.Disk.content g.B.Bays.home g.B.Bays.out g.B.Bays.same c.args.self.now.nodes (g.met.B.Bays.same_self c.args.self.now.nodes.bays),
+  packing_kept g.B.Bays.tells g.B.Disk.Disk.tells g.B.Disk.Disk.content g.B.Disk.Disk.faults g.B.Bays.home g.B.Bays.out g.B.Bays.same c.args.self.now.cluster c.send.new.self c.args.self.now.nodes c.send.ensures.run,
 )
 
 pub returns-in-Ok-send-clause-falls : goal.returns-in-Ok-send-clause-falls
@@ -40,5 +44,6 @@ returns-in-Ok-send-clause-falls g c = (
       (has_node c.args.self.now.opened c.args.self.now.cluster.shape c.args.node c.requires.node) c.in-Ok-send.ensures.ok),
   g.met.M.Moves.same_self c.args.self.now.moves,
   refl,
-  bays_stay g.B.Bays.tells g.B.Bays.out g.B.Bays.same c.args.self.now.nodes (g.met.B.Bays.same_self c.args.self.now.nodes.bays),
+  bays_stay g.B.Bays.tells g.B.Disk.Disk.tells g.B.Disk.Disk.content g.B.Bays.home g.B.Bays.out g.B.Bays.same c.args.self.now.nodes (g.met.B.Bays.same_self c.args.self.now.nodes.bays),
+  packing_kept g.B.Bays.tells g.B.Disk.Disk.tells g.B.Disk.Disk.content g.B.Disk.Disk.faults g.B.Bays.home g.B.Bays.out g.B.Bays.same c.args.self.now.cluster c.send.new.self c.args.self.now.nodes c.send.ensures.run,
 )
