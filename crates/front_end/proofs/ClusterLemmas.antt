@@ -1,5 +1,5 @@
 -- What a run over a network leaves behind, from what its last calls left.
-use Rattle.std.proofs.Common.{◌≡◌, ◌⊎◌, ◌++◌, ◌∙◌, inl, inr, ℕ, List, [], Option, Some, refl, sym, ap, subst, append_assoc}
+use Rattle.std.proofs.Common.{◌≡◌, ◌⊎◌, ◌++◌, ◌∙◌, inl, inr, ℕ, List, [], Option, Some, sym, ap, subst, append_assoc}
 use Rattle.std.proofs.lemmas.List.{append_cancel_left}
 use Rattle.mem_fabric.specs.Network.{Network, nothing}
 use Rattle.mem_fabric.specs.Played.{Act, AllMay, all_acted, moves_of, PlaysBy, Falls, IsPlayed}

@@ -1,5 +1,5 @@
 -- How the words of a line are told apart.
-use Rattle.std.proofs.Common.{◌≡◌, ℕ, ◌<◌, ◌≤◌, None, List, [], ◌∷◌, length, map, refl, arith}
+use Rattle.std.proofs.Common.{◌≡◌, ℕ, ◌≤◌, None, List, [], ◌∷◌, length, map, refl, arith}
 use Rattle.front_end.specs.declared.tags.Tag.{Tag}
 use Rattle.front_end.specs.Script.{operation_of}
 

@@ -1,5 +1,5 @@
 -- Bays that are made for a test.
-use Rattle.std.proofs.Common.{◌≡◌, ℕ, List, Option, None}
+use Rattle.std.proofs.Common.{◌≡◌, ℕ, List, None}
 use Rattle.disk_core.specs.Content.{Content}
 use Rattle.disk_core.specs.Homes.{Home}
 use Rattle.lab_nodes.specs.Nodes.{AllTidy}

@@ -1,12 +1,14 @@
 -- The disks of a run: what they held before it, and what they hold after it.
-use Rattle.std.specs.Prelude.{◌≡◌, ℕ, Bool, true, false, List, ◌++◌}
+use Rattle.std.specs.Prelude.{◌≡◌, ℕ, true, false, List, ◌++◌}
 use Rattle.disk_core.specs.Content.{Content}
 use Rattle.disk_core.specs.Homes.{Home}
+use Rattle.lab_nodes.specs.Layouts.{HomeHasLayouts, Layouts}
 use Rattle.lab_nodes.specs.Nodes.{HomeHolds}
 use Rattle.lab_nodes.specs.Spots.{DiskFailed}
 use Rattle.lab_nodes.specs.Starting.{IsFirst}
 use Rattle.lab_nodes.specs.declared.places.Which.{Which}
 use Rattle.mem_fabric.specs.Network.{nothing}
+use Rattle.mem_fabric.specs.Packing.{AllPacked}
 use Rattle.mem_fabric.specs.Played.{Act, AllMay, all_acted, moves_of}
 use Rattle.mem_fabric.specs.Torn.{has_torn}
 use Rattle.world_model.specs.declared.moves.Move.{Move}
@@ -34,11 +36,12 @@ module _ {B D : Type 0} (bays_tell tells : Type 0) (content : D → Content) (si
   Opens shape folder bays calls opening = tells × (has_torn calls ≡ false) × HomeHolds content home shape folder bays opening
 
   -- The disks are at home and stand for the last cells of what was told, also what a crash leaves of them. Something is in doubt only where a
-  -- disk failed.
+  -- disk failed. Each replica was full just where the packing of its records says so, from the layouts of the disks that were handed in.
   abbrev pub Leaves : Shape → List ℕ → (old new : B) → List Called → Type 0
   Leaves shape folder old new calls =
       ((opening : Cells) → Opens shape folder old calls opening → HomeHolds content home shape folder new (world opening (told calls)).cells)
       × (has_torn calls ≡ true → tells → ∥ DiskFailed faults ∥₁)
+      × ((opening : Cells) (first : Layouts) → Opens shape folder old calls opening → HomeHasLayouts content home shape folder old first → AllPacked shape opening first (told calls))
 
   abbrev pub Stay : Shape → List ℕ → B → B → Type 0
   Stay shape folder old new = tells → (cells : Cells) → HomeHolds content home shape folder old cells → HomeHolds content home shape folder new cells

@@ -55,8 +55,10 @@ where
     ensures run { (settings : SettingsValue) → Spells settings words.now → HasRun settings.shape (disks_of B.tells B.Disk.tells B.Disk.content B.Disk.size B.Disk.faults B.home settings.shape settings.folder bays.old bays.new) (M.given moves.old) (M.given moves.new) result (outside_of (S.left input.old) (S.left input.new) (K.taken output.old) (K.taken output.new) (started U.seeded settings.ids (U.ahead random.old)) (U.ahead random.new)) × (M.seeds moves.new ≡ M.seeds moves.old ++ settings.seed ∷ [])
         ⊎ ((result ≡ 5) ⊎ (result ≡ 6)) × (M.given moves.new ≡ M.given moves.old) × (M.seeds moves.new ≡ M.seeds moves.old) × (bays.new ≡ bays.old) × IsUntouched (outside_of (S.left input.old) (S.left input.new) (K.taken output.old) (K.taken output.new) (U.ahead random.old) (U.ahead random.new)) }
 
-    // Each disk that was taken out is at home again, whatever the status.
+    // Each disk that was taken out is at home again, whatever the status, and the logs of the disks are tidy still, so that the call
+    // can be made again.
     ensures home { B.tells → (n p : ℕ) → B.out bays.new n p ≡ B.out bays.old n p }
+    ensures tidy_again { B.Disk.tells → AllTidy B.Disk.content B.home bays.new }
 
     // A failure is answered only where it happened.
     ensures source { result ≡ 3 → Rose (S.faults input.old) (S.faults input.new) }
@@ -117,6 +119,7 @@ where
     ensures run { HasRun settings.now.shape (disks_of B.tells B.Disk.tells B.Disk.content B.Disk.size B.Disk.faults B.home settings.now.shape settings.now.folder bays.old bays.new) (M.given moves.old) (M.given moves.new) result (outside_of (S.left input.old) (S.left input.new) (K.taken output.old) (K.taken output.new) (started U.seeded settings.now.ids (U.ahead random.old)) (U.ahead random.new)) × (M.seeds moves.new ≡ M.seeds moves.old ++ settings.now.seed ∷ [])
         ⊎ (result ≡ 5) × (M.given moves.new ≡ M.given moves.old) × (M.seeds moves.new ≡ M.seeds moves.old) × (bays.new ≡ bays.old) × IsUntouched (outside_of (S.left input.old) (S.left input.new) (K.taken output.old) (K.taken output.new) (U.ahead random.old) (U.ahead random.new)) }
     ensures home { B.tells → (n p : ℕ) → B.out bays.new n p ≡ B.out bays.old n p }
+    ensures tidy_again { B.Disk.tells → AllTidy B.Disk.content B.home bays.new }
     ensures source { result ≡ 3 → Rose (S.faults input.old) (S.faults input.new) }
     ensures sink { result ≡ 4 → Rose (K.faults output.old) (K.faults output.new) }
     ensures random { result ≡ 5 → Rose (U.faults random.old) (U.faults random.new) ⊎ HasFailed B.Disk.faults (B.faults bays.old) (B.faults bays.new) }
@@ -157,6 +160,7 @@ where
     ensures run { HasRun shape.now (disks_of B.tells B.Disk.tells B.Disk.content B.Disk.size B.Disk.faults B.home shape.now folder.now bays.old bays.new) (M.given moves.old) (M.given moves.new) result (outside_of (S.left input.old) (S.left input.new) (K.taken output.old) (K.taken output.new) (U.ahead random.old) (U.ahead random.new)) }
     ensures seeds { M.seeds moves.new ≡ M.seeds moves.old }
     ensures home { B.tells → (n p : ℕ) → B.out bays.new n p ≡ B.out bays.old n p }
+    ensures tidy_again { B.Disk.tells → AllTidy B.Disk.content B.home bays.new }
     ensures failed { result ≡ 5 → HasFailed B.Disk.faults (B.faults bays.old) (B.faults bays.new) }
     ensures source { result ≡ 3 → Rose (S.faults input.old) (S.faults input.new) }
     ensures sink { result ≡ 4 → Rose (K.faults output.old) (K.faults output.new) }
@@ -185,6 +189,7 @@ where
     ensures seeds { M.seeds moves.new ≡ M.seeds moves.old }
     ensures same_bays { A.same bays result.1 }
     ensures home { A.tells → (n p : ℕ) → A.out result.1 n p ≡ A.out bays n p }
+    ensures tidy_again { A.Disk.tells → AllTidy A.Disk.content A.home result.1 }
     ensures failed { result.0 ≡ 5 → HasFailed A.Disk.faults (A.faults bays) (A.faults result.1) }
     ensures source { result.0 ≡ 3 → Rose (S.faults input.old) (S.faults input.new) }
     ensures sink { result.0 ≡ 4 → Rose (K.faults output.old) (K.faults output.new) }
@@ -214,6 +219,7 @@ where
     ensures seeds { N.seeds result.2 ≡ N.seeds moves }
     ensures same_bays { A.same bays result.1 }
     ensures home { A.tells → (n p : ℕ) → A.out result.1 n p ≡ A.out bays n p }
+    ensures tidy_again { A.Disk.tells → AllTidy A.Disk.content A.home result.1 }
     ensures failed { result.0 ≡ 5 → HasFailed A.Disk.faults (A.faults bays) (A.faults result.1) }
     ensures source { result.0 ≡ 3 → Rose (S.faults input.old) (S.faults input.new) }
     ensures sink { result.0 ≡ 4 → Rose (K.faults output.old) (K.faults output.new) }
@@ -247,6 +253,7 @@ where
     ensures seeds { N.seeds fabric.new.moves ≡ N.seeds fabric.old.moves }
     ensures same_bays { A.same fabric.old.nodes.bays fabric.new.nodes.bays }
     ensures home { A.tells → (n p : ℕ) → A.out fabric.new.nodes.bays n p ≡ A.out fabric.old.nodes.bays n p }
+    ensures tidy_again { A.Disk.tells → AllTidy A.Disk.content A.home fabric.old.nodes.bays → AllTidy A.Disk.content A.home fabric.new.nodes.bays }
     ensures failed { result ≡ 5 → HasFailed A.Disk.faults (A.faults fabric.old.nodes.bays) (A.faults fabric.new.nodes.bays) }
     ensures source { result ≡ 3 → Rose (S.faults input.old) (S.faults input.new) }
     ensures sink { result ≡ 4 → Rose (K.faults output.old) (K.faults output.new) }

@@ -47,6 +47,7 @@ fn run_over<B: Bays>(
 where
     B::Disk: Drop,
     requires { B.Disk.tells → AllTidy B.Disk.content B.home bays.old }
+    ensures { B.Disk.tells → AllTidy B.Disk.content B.home bays.new }
 {
     let words = words_of(alloc, words)?;
     let mut input = script_of(alloc, script, Vec::new(alloc))?;
@@ -539,8 +540,24 @@ fn failures_of_the_outside_are_told(rt: HostRuntime) -> Result<(), Fail> {
     Ok(())
 }
 
-/// Sessions over the same files, each with its own words: what they answer and write, one behind the other.
-fn run_twice(
+/// Sessions over the same bays, each with its own words: what they answer and write, one behind the other.
+fn run_twice<B: Bays>(
+    alloc: Global,
+    bays: &mut B,
+    words: [&[&str]; 2],
+    scripts: [&[u8]; 2],
+) -> Result<[(u8, BytesSink); 2], Fail>
+where
+    B::Disk: Drop,
+    requires { B.Disk.tells → AllTidy B.Disk.content B.home bays.old }
+{
+    let first = run_over(alloc, words[0], scripts[0], bays, Vec::new(alloc))?;
+    let second = run_over(alloc, words[1], scripts[1], bays, Vec::new(alloc))?;
+    Ok([first, second])
+}
+
+/// Sessions over the same files.
+fn run_twice_over_files(
     rt: HostRuntime,
     folder: &str,
     words: [&[&str]; 2],
@@ -548,17 +565,20 @@ fn run_twice(
 ) -> Result<[(u8, BytesSink); 2], Fail> {
     let alloc = rt.alloc();
     let mut bays = FileBays::new(alloc, rt);
-    let first = run_over(alloc, words[0], scripts[0], &mut bays, Vec::new(alloc))?;
-    let second = run_over(alloc, words[1], scripts[1], &mut bays, Vec::new(alloc))?;
+    let both = run_twice(alloc, &mut bays, words, scripts)?;
     fs::remove_dir_all(&rt, folder)?;
-    Ok([first, second])
+    Ok(both)
 }
 
-#[test]
-fn a_later_session_gets_what_an_earlier_one_put(rt: HostRuntime) -> Result<(), Fail> {
+/// Whether a later session gets what an earlier one put, where all nodes stopped and ran again in between.
+fn keeps_what_was_put<B: Bays>(alloc: Global, bays: &mut B) -> Result<bool, Fail>
+where
+    B::Disk: Drop,
+    requires { B.Disk.tells → AllTidy B.Disk.content B.home bays.old }
+{
     let [first, second] = run_twice(
-        rt,
-        "front_end_test_kept",
+        alloc,
+        bays,
         [
             &["run", "--partitions=1", "--folder=front_end_test_kept"],
             &[
@@ -574,21 +594,32 @@ fn a_later_session_gets_what_an_earlier_one_put(rt: HostRuntime) -> Result<(), F
             b"get b 0100000000000000000040008000000000000000\nwait\nput c hex 6262\nwait\n",
         ],
     )?;
-    assert_eq!(rt; first.0, 0);
     let rest =
         b"a ok 0100000000000000000040008000000000000000\nstop 1 ok\nstop 2 ok\nstop 3 ok\nrestart 1 ok\nrestart 2 ok\nrestart 3 ok\n";
-    assert!(rt; is_begun_and(first.1.bytes(), rest));
-    assert_eq!(rt; second.0, 0);
-    assert_eq!(rt;
-        second.1.bytes(),
-        b"b begun\nb ok 2 6161\nc begun\nc drew 0100000000000000000040018000000000000000\nc ok 0100000000000000000040018000000000000000\n".as_slice()
-    );
+    let later =
+        b"b begun\nb ok 2 6161\nc begun\nc drew 0100000000000000000040018000000000000000\nc ok 0100000000000000000040018000000000000000\n";
+    Ok(
+        first.0 == 0
+            && is_begun_and(first.1.bytes(), rest)
+            && second.0 == 0
+            && second.1.bytes() == later.as_slice(),
+    )
+}
+
+#[test]
+fn a_later_session_gets_what_an_earlier_one_put(rt: HostRuntime) -> Result<(), Fail> {
+    let alloc = rt.alloc();
+    let mut files = FileBays::new(alloc, rt);
+    assert!(rt; keeps_what_was_put(alloc, &mut files)?);
+    fs::remove_dir_all(&rt, "front_end_test_kept")?;
+    let mut memory = new_bays(alloc, Vec::new(alloc));
+    assert!(rt; keeps_what_was_put(alloc, &mut memory)?);
     Ok(())
 }
 
 #[test]
 fn a_disk_of_other_numbers_is_refused(rt: HostRuntime) -> Result<(), Fail> {
-    let [first, second] = run_twice(
+    let [first, second] = run_twice_over_files(
         rt,
         "front_end_test_index",
         [
@@ -615,7 +646,7 @@ fn a_disk_of_other_numbers_is_refused(rt: HostRuntime) -> Result<(), Fail> {
 
 #[test]
 fn a_disk_of_another_size_is_refused(rt: HostRuntime) -> Result<(), Fail> {
-    let [first, second] = run_twice(
+    let [first, second] = run_twice_over_files(
         rt,
         "front_end_test_size",
         [

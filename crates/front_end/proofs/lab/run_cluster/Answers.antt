@@ -1,11 +1,11 @@
-use Rattle.std.proofs.Common.{◌≡◌, ◌∙◌, ap, refl, Err, inl, inr}
-use Rattle.mem_fabric.specs.GoingLaws.{bays_on}
+use Rattle.std.proofs.Common.{◌∙◌, ap, refl, Err, inl, inr}
+use Rattle.mem_fabric.specs.GoingLaws.{bays_on, packing_on}
 use Rattle.mem_fabric.specs.Past.{calls_of}
 use Rattle.mem_fabric.specs.PlayedLaws.{falls_as_plays, falls_on, plays_on}
 use Rattle.mem_fabric.specs.Sound.{network_of}
 use Rattle.front_end.specs.Disks.{disks_of}
 use Rattle.front_end.proofs.ClusterLemmas.{opened_tie, ran_finished, ran_stopped, ran_cut, ran_starved, turned_away}
-use Rattle.front_end.proofs.DiskLemmas.{all_home, leaves_of, runs_on}
+use Rattle.front_end.proofs.DiskLemmas.{all_home, leaves_of, packs_on, runs_on}
 use Rattle.front_end.proofs.lab.run_cluster.Goals as goal
 use Rattle.front_end.proofs.lab.run_cluster.Goals.{in-Ok-run_script, in-Err-Source, in-Err-Sink, in-Err-Memory-run_script}
 
@@ -23,50 +23,59 @@ returns-clause-run g c =
     let shape = c.args.shape.now in
     let folder = c.args.folder.now in
     let disks = disks_of B.tells D.tells D.content D.size D.faults B.home shape folder old.nodes.bays end.nodes.bays in
+    let packs = packs_on B.tells D.tells D.content D.size D.faults B.home shape folder old.nodes opened.nodes end.nodes (calls_of old.cluster.past) (calls_of opened.cluster.past) (calls_of end.cluster.past) c.requires.nodes c.requires.told c.open.ensures.packing c.in-Ok.ensures.standing in
     elim c.match-run_script.branch [
       | in-Ok-run_script w ↦
           let on = w.in-Ok-run_script.ensures.finished in
+          let packing = packing_on D.tells D.content B.home (calls_of opened.cluster.past) opened.nodes (calls_of left.cluster.past) left.nodes (calls_of end.cluster.past) end.nodes on.went.4 c.close.ensures.goes.4 in
           let p = c.what_is_told_was_played.ensures old opened end shape (calls_of left.cluster.past) c.requires.fresh c.in-Ok.ensures.goes c.in-Ok.ensures.opened (
             plays_on _ _ _ _ _ _ on.went.0 c.close.ensures.goes.0,
             g.met.N.Moves.same_on _ _ _ on.went.1 c.close.ensures.goes.1,
             c.close.ensures.goes.2 ∙ on.went.2,
-            bays_on B.tells B.out B.same opened.nodes left.nodes end.nodes (g.met.A.Bays.same_on _ _ _) on.went.3 c.close.ensures.goes.3,
+            bays_on B.tells D.tells D.content B.home B.out B.same opened.nodes left.nodes end.nodes (g.met.A.Bays.same_on _ _ _) on.went.3 c.close.ensures.goes.3,
+            packing,
           ) c.close.ensures.told in
           ran_finished shape disks on.router _ _ (calls_of left.cluster.past) _ _ _ c.runs_are_safe.ensures on.shaped (p.0, p.1, p.2)
           (runs_on B.tells D.tells D.content D.size D.faults B.home shape folder old.nodes.bays left.nodes (calls_of left.cluster.past) (λ opening held. on.run shape folder opening (c.in-Ok.ensures.run opening (c.requires.holds opening held))))
           (leaves_of B.tells D.tells D.content D.size D.faults B.home shape folder old.nodes.bays end.nodes (calls_of left.cluster.past) (calls_of end.cluster.past) c.close.ensures.told
-          (λ opening held. c.close.ensures.run shape folder opening (on.run shape folder opening (c.in-Ok.ensures.run opening (c.requires.holds opening held)))) c.close.ensures.home c.close.ensures.torn)
+          (λ opening held. c.close.ensures.run shape folder opening (on.run shape folder opening (c.in-Ok.ensures.run opening (c.requires.holds opening held)))) c.close.ensures.home c.close.ensures.torn (packs packing))
           w.status-is on.so
       | in-Err-Source w ↦
           let on = w.in-Err-Source.ensures.stopped (ap Err w.in-Err-Source.field-0-is) in
+          let packing = packing_on D.tells D.content B.home (calls_of opened.cluster.past) opened.nodes (calls_of left.cluster.past) left.nodes (calls_of end.cluster.past) end.nodes on.went.4 c.close.ensures.goes.4 in
           let p = c.what_is_told_was_played.ensures old opened end shape (calls_of left.cluster.past) c.requires.fresh c.in-Ok.ensures.goes c.in-Ok.ensures.opened (
             plays_on _ _ _ _ _ _ on.went.0 c.close.ensures.goes.0,
             g.met.N.Moves.same_on _ _ _ on.went.1 c.close.ensures.goes.1,
             c.close.ensures.goes.2 ∙ on.went.2,
-            bays_on B.tells B.out B.same opened.nodes left.nodes end.nodes (g.met.A.Bays.same_on _ _ _) on.went.3 c.close.ensures.goes.3,
+            bays_on B.tells D.tells D.content B.home B.out B.same opened.nodes left.nodes end.nodes (g.met.A.Bays.same_on _ _ _) on.went.3 c.close.ensures.goes.3,
+            packing,
           ) c.close.ensures.told in
           ran_stopped shape disks on.router _ _ (calls_of left.cluster.past) _ _ c.runs_are_safe.ensures on.shaped (p.0, p.1, p.2)
           (runs_on B.tells D.tells D.content D.size D.faults B.home shape folder old.nodes.bays left.nodes (calls_of left.cluster.past) (λ opening held. on.run shape folder opening (c.in-Ok.ensures.run opening (c.requires.holds opening held))))
           (leaves_of B.tells D.tells D.content D.size D.faults B.home shape folder old.nodes.bays end.nodes (calls_of left.cluster.past) (calls_of end.cluster.past) c.close.ensures.told
-          (λ opening held. c.close.ensures.run shape folder opening (on.run shape folder opening (c.in-Ok.ensures.run opening (c.requires.holds opening held)))) c.close.ensures.home c.close.ensures.torn)
+          (λ opening held. c.close.ensures.run shape folder opening (on.run shape folder opening (c.in-Ok.ensures.run opening (c.requires.holds opening held)))) c.close.ensures.home c.close.ensures.torn (packs packing))
           w.status-is on.so
       | in-Err-Sink w ↦
           let on = w.in-Err-Sink.ensures.cut (ap Err w.in-Err-Sink.field-0-is) in
+          let packing = packing_on D.tells D.content B.home (calls_of opened.cluster.past) opened.nodes (calls_of left.cluster.past) left.nodes (calls_of end.cluster.past) end.nodes on.went.4 c.close.ensures.goes.4 in
           let p = c.what_is_told_was_played.ensures old opened end shape (calls_of left.cluster.past) c.requires.fresh c.in-Ok.ensures.goes c.in-Ok.ensures.opened (
             plays_on _ _ _ _ _ _ on.went.0 c.close.ensures.goes.0,
             g.met.N.Moves.same_on _ _ _ on.went.1 c.close.ensures.goes.1,
             c.close.ensures.goes.2 ∙ on.went.2,
-            bays_on B.tells B.out B.same opened.nodes left.nodes end.nodes (g.met.A.Bays.same_on _ _ _) on.went.3 c.close.ensures.goes.3,
+            bays_on B.tells D.tells D.content B.home B.out B.same opened.nodes left.nodes end.nodes (g.met.A.Bays.same_on _ _ _) on.went.3 c.close.ensures.goes.3,
+            packing,
           ) c.close.ensures.told in
           ran_cut shape disks on.router _ _ (calls_of left.cluster.past) _ _ c.runs_are_safe.ensures on.shaped (p.0, p.1, p.2)
           (runs_on B.tells D.tells D.content D.size D.faults B.home shape folder old.nodes.bays left.nodes (calls_of left.cluster.past) (λ opening held. on.run shape folder opening (c.in-Ok.ensures.run opening (c.requires.holds opening held))))
           (leaves_of B.tells D.tells D.content D.size D.faults B.home shape folder old.nodes.bays end.nodes (calls_of left.cluster.past) (calls_of end.cluster.past) c.close.ensures.told
-          (λ opening held. c.close.ensures.run shape folder opening (on.run shape folder opening (c.in-Ok.ensures.run opening (c.requires.holds opening held)))) c.close.ensures.home c.close.ensures.torn)
+          (λ opening held. c.close.ensures.run shape folder opening (on.run shape folder opening (c.in-Ok.ensures.run opening (c.requires.holds opening held)))) c.close.ensures.home c.close.ensures.torn (packs packing))
           w.status-is on.so
       | in-Err-Memory-run_script w ↦
           let starved = w.in-Err-Memory-run_script.ensures.refused (ap Err w.in-Err-Memory-run_script.field-0-is) in
           let between = starved.1.between in
           let on = starved.1.was in
+          let fell = packing_on D.tells D.content B.home (calls_of opened.cluster.past) opened.nodes (calls_of between.cluster.past) between.nodes (calls_of left.cluster.past) left.nodes on.went.4 starved.1.fell.4 in
+          let packing = packing_on D.tells D.content B.home (calls_of opened.cluster.past) opened.nodes (calls_of left.cluster.past) left.nodes (calls_of end.cluster.past) end.nodes fell c.close.ensures.goes.4 in
           let p = c.what_is_told_was_played.ensures old opened between shape (calls_of between.cluster.past) c.requires.fresh c.in-Ok.ensures.goes c.in-Ok.ensures.opened on.went refl in
           ran_starved shape disks on.router _ _ _ (network_of old.cluster) (network_of between.cluster) (network_of end.cluster) starved.0 _ _ c.runs_are_safe.ensures on.shaped (p.0, p.1, p.2)
           (runs_on B.tells D.tells D.content D.size D.faults B.home shape folder old.nodes.bays between.nodes (calls_of between.cluster.past) (λ opening held. on.run shape folder opening (c.in-Ok.ensures.run opening (c.requires.holds opening held))))
@@ -74,7 +83,7 @@ returns-clause-run g c =
           (falls_as_plays _ _ _ _ (plays_on _ _ _ _ _ _ c.in-Ok.ensures.goes.0 on.went.0))
           (falls_on _ _ _ _ _ _ starved.1.fell.0 (falls_as_plays _ _ _ _ c.close.ensures.goes.0))
           (leaves_of B.tells D.tells D.content D.size D.faults B.home shape folder old.nodes.bays end.nodes (calls_of end.cluster.past) (calls_of end.cluster.past) refl
-          (λ opening held. c.close.ensures.run shape folder opening (starved.1.run shape folder opening (on.run shape folder opening (c.in-Ok.ensures.run opening (c.requires.holds opening held))))) c.close.ensures.home c.close.ensures.torn)
+          (λ opening held. c.close.ensures.run shape folder opening (starved.1.run shape folder opening (on.run shape folder opening (c.in-Ok.ensures.run opening (c.requires.holds opening held))))) c.close.ensures.home c.close.ensures.torn (packs packing))
           w.status-is on.so
     ]
 
@@ -82,6 +91,9 @@ pub returns-clause-home : goal.returns-clause-home
 returns-clause-home g c = λ t.
     all_home g.A.Bays.out c.args.fabric.now.nodes c.close.new.self.nodes c.requires.nodes c.close.ensures.home
     (λ before own. c.close.ensures.goes.3.own t before (c.run_script.ensures.falls.3.own t before (c.open.ensures.falls.3.own t before own)))
+
+pub returns-clause-tidy_again : goal.returns-clause-tidy_again
+returns-clause-tidy_again g c = λ t tidy. c.close.ensures.goes.3.tidy t (c.run_script.ensures.falls.3.tidy t (c.open.ensures.falls.3.tidy t tidy))
 
 pub returns-clause-same_bays : goal.returns-clause-same_bays
 returns-clause-same_bays g c = g.met.A.Bays.same_on _ _ _ (g.met.A.Bays.same_on _ _ _ c.open.ensures.falls.3.same_bays c.run_script.ensures.falls.3.same_bays) c.close.ensures.goes.3.same_bays
@@ -110,3 +122,12 @@ returns-in-Err-Refused-clause-run g c =
 pub returns-in-Err-Refused-clause-home : goal.returns-in-Err-Refused-clause-home
 returns-in-Err-Refused-clause-home g c = λ t.
     all_home g.A.Bays.out c.args.fabric.now.nodes c.open.new.self.nodes c.requires.nodes c.in-Err-Refused.ensures.shut (λ before own. c.open.ensures.falls.3.own t before own)
+
+pub returns-in-Err-Failed-clause-tidy_again : goal.returns-in-Err-Failed-clause-tidy_again
+returns-in-Err-Failed-clause-tidy_again g c = λ t tidy. c.open.ensures.falls.3.tidy t tidy
+
+pub returns-in-Err-Memory-clause-tidy_again : goal.returns-in-Err-Memory-clause-tidy_again
+returns-in-Err-Memory-clause-tidy_again g c = λ t tidy. c.open.ensures.falls.3.tidy t tidy
+
+pub returns-in-Err-Refused-clause-tidy_again : goal.returns-in-Err-Refused-clause-tidy_again
+returns-in-Err-Refused-clause-tidy_again g c = λ t tidy. c.open.ensures.falls.3.tidy t tidy

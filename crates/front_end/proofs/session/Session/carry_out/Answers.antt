@@ -1,4 +1,4 @@
-use Rattle.std.proofs.Common.{◌≡◌, ◌∙◌, ◌++◌, ◌+◌, List, Option, ℕ, ap, sym, subst, None, Some, length, arith, inl, inr, ◌∷◌, []}
+use Rattle.std.proofs.Common.{◌≡◌, ◌∙◌, ◌++◌, ◌+◌, List, Option, ap, sym, subst, None, Some, length, arith, inl, inr, ◌∷◌, []}
 use Rattle.world_model.specs.declared.order.Order.{Order}
 use Rattle.front_end.specs.declared.history.Entry.TheVariants.{Failed}
 use Rattle.front_end.specs.declared.tags.Tag.{Tag}
