@@ -3,14 +3,19 @@
 
 Runs scripts of 1,000, 10,000 and 100,000 puts and as many gets of 100 bytes through the proved program, over one node and
 over three replicas with the plain schedule, and prints the lines per second and the time a line takes in each, as a ratio
-to the first: `python3 bench/session.py`. The goal is at most 1.5.
+to the first: `python3 bench/session.py`. The goal is at most 1.5. Each run has new disks, in memory where the machine has a
+folder for that, since each put waits until its disks are synced.
 """
 import subprocess
 import sys
+import tempfile
 import time
+from pathlib import Path
 
 SIZES = (1_000, 10_000, 100_000)
 CLUSTERS = (("one node", ("run", "--nodes", "1")), ("three replicas", ("run",)))
+PROGRAM = Path(__file__).resolve().parent.parent / "ambry_lab"
+MEMORY = "/dev/shm" if Path("/dev/shm").is_dir() else None
 
 
 def script(count):
@@ -21,9 +26,10 @@ def script(count):
 
 
 def run(words, text):
-    begun = time.perf_counter()
-    done = subprocess.run(["./ambry_lab", *words], input=text, stdout=subprocess.PIPE, check=False)
-    taken = time.perf_counter() - begun
+    with tempfile.TemporaryDirectory(dir=MEMORY) as work:
+        begun = time.perf_counter()
+        done = subprocess.run([str(PROGRAM), *words], cwd=work, input=text, stdout=subprocess.PIPE, check=False)
+        taken = time.perf_counter() - begun
     if done.returncode != 0:
         sys.exit(f"the program answered {done.returncode}")
     return taken, done.stdout.count(b" ok ")
