@@ -4,6 +4,3 @@
 mod delete;
 
 pub use delete::DelOp;
-
-#[cfg(test)]
-mod tests;

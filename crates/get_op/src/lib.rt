@@ -4,6 +4,3 @@
 mod get;
 
 pub use get::GetOp;
-
-#[cfg(test)]
-mod tests;

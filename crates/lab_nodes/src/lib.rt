@@ -12,6 +12,3 @@ pub use fault::NodesFault;
 pub use nodes::LabNodes;
 pub use places::Which;
 pub use spots::{halt, start};
-
-#[cfg(test)]
-mod tests;

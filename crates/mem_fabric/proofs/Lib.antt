@@ -6,4 +6,3 @@ pub mod Making
 pub mod Goes
 pub mod Answering
 pub mod Playing
-pub mod TestLemmas

@@ -12,6 +12,3 @@ mod past;
 
 pub use fabric::MemFabric;
 pub use laws::what_is_told_was_played;
-
-#[cfg(test)]
-mod tests;

@@ -105,13 +105,15 @@ fn node_over<P: ReplicaPort + Drop>(
     }
 }
 
-/// The partitions of the first and the last of some ports.
-fn partitions_of<P>(ports: &[(u32, P)]) -> (u32, u32) {
-    match ports {
-        [first, .., last] => (first.0, last.0),
-        _ => (0, 0),
-    }
-}
+/// A find of 2 entries behind lsn 7, in partition 0.
+const FIND: [u8; 28] = [
+    0x41, 0x4d, 1, 5, 0, 0, 0, 2, 0, 0, 0, 1, 0, 0, 0, 0, 0, 10, 2, 1, 0, 0, 0, 0, 0, 0, 0, 7,
+];
+
+/// The page without entries, and the same token.
+const PAGE: [u8; 28] = [
+    0x41, 0x4d, 1, 18, 0, 0, 0, 2, 0, 0, 0, 1, 0, 0, 0, 0, 0, 10, 0, 1, 0, 0, 0, 0, 0, 0, 0, 7,
+];
 
 #[test]
 fn requests_are_answered(rt: HostRuntime) -> Result<(), Fail> {
@@ -138,101 +140,13 @@ fn requests_are_answered(rt: HostRuntime) -> Result<(), Fail> {
         );
     }
     assert!(rt; is_answered(&mut node, alloc, 2, 0, 4, &BLOB)?);
-    Ok(())
-}
-
-/// A find of 2 entries behind lsn 7, in partition 0.
-const FIND: [u8; 28] = [
-    0x41, 0x4d, 1, 5, 0, 0, 0, 2, 0, 0, 0, 1, 0, 0, 0, 0, 0, 10, 2, 1, 0, 0, 0, 0, 0, 0, 0, 7,
-];
-
-/// The page without entries, and the same token.
-const PAGE: [u8; 28] = [
-    0x41, 0x4d, 1, 18, 0, 0, 0, 2, 0, 0, 0, 1, 0, 0, 0, 0, 0, 10, 0, 1, 0, 0, 0, 0, 0, 0, 0, 7,
-];
-
-#[test]
-fn finds_and_fetches_are_answered(rt: HostRuntime) -> Result<(), Fail> {
-    let alloc = rt.alloc();
-    let mut node = node_over(alloc, PlainReplica::new(alloc), PlainReplica::new(alloc))?;
+    assert!(rt; is_answered(&mut node, alloc, 6, 0, 4, &BLOB)?);
     match node.on_frame(&FIND)? {
         Some(reply) => assert_eq!(rt; reply.as_slice(), PAGE.as_slice()),
         None => panic!(rt; "no page"),
     }
-    assert!(rt; is_answered(&mut node, alloc, 1, 0, 0, &[])?);
-    assert!(rt; is_answered(&mut node, alloc, 6, 0, 4, &BLOB)?);
-    // A fetch may name an id of any partition.
-    let mut fetch = Vec::from_slice(alloc, &GET)?;
-    fetch[3] = 6;
-    fetch[13] = 7;
-    let absent = answer(alloc, 7, 5, &[])?;
-    match node.on_frame(fetch.as_slice())? {
-        Some(reply) => assert_eq!(rt; reply.as_slice(), absent.as_slice()),
-        None => panic!(rt; "no answer"),
-    }
-    Ok(())
-}
-
-#[test]
-fn the_ports_come_back(rt: HostRuntime) -> Result<(), Fail> {
-    let alloc = rt.alloc();
-    let ports = two_ports(alloc, PlainReplica::new(alloc), PlainReplica::new(alloc))?;
-    let ports = match NodeCore::new(alloc, 3, ports) {
-        Ok(node) => {
-            assert_eq!(rt; node.node(), 3);
-            assert_eq!(rt;
-                (node.port(7).is_some(), node.port(9).is_some()),
-                (true, false)
-            );
-            node.close()
-        }
-        Err((_, ports)) => ports,
-    };
-    assert_eq!(rt; partitions_of(ports.as_slice()), (0, 7));
-    Ok(())
-}
-
-#[test]
-fn what_is_no_request_is_not_answered(rt: HostRuntime) -> Result<(), Fail> {
-    let alloc = rt.alloc();
-    let mut node = node_over(alloc, PlainReplica::new(alloc), PlainReplica::new(alloc))?;
-    let stored = answer(alloc, 0, 0, &[])?;
-    assert!(rt; node.on_frame(stored.as_slice())?.is_none());
-    assert!(rt; node.on_frame(&[])?.is_none());
+    // A request without its last byte.
     assert!(rt; node.on_frame(&GET[..37])?.is_none());
-    // A kind that no frame has, an id of another partition, a put without its blob.
-    for (place, byte) in [(3, 7), (21, 7), (3, 1)] {
-        let mut bytes = Vec::from_slice(alloc, &GET)?;
-        bytes[place] = byte;
-        assert!(rt;
-            node.on_frame(bytes.as_slice())?.is_none(),
-            "{place} {byte}"
-        );
-    }
-    Ok(())
-}
-
-/// The moment of a delete.
-fn moment_of(ask: &Ask) -> Option<u64> {
-    match ask {
-        Ask::Delete { at, .. } => Some(*at),
-        _ => None,
-    }
-}
-
-#[test]
-fn requests_are_read_and_answers_written(rt: HostRuntime) -> Result<(), Fail> {
-    let alloc = rt.alloc();
-    let bytes = request(alloc, 4, 7, &MOMENT)?;
-    match read_request(alloc, bytes.as_slice())? {
-        Some((correlation, partition, ask)) => {
-            assert_eq!(rt; (correlation, partition), (0x2_0000_0001, 7));
-            assert_eq!(rt; moment_of(&ask), Some(9));
-        }
-        None => panic!(rt; "no request"),
-    }
-    let done = write_reply(alloc, 0x2_0000_0001, 7, Reply::Done)?;
-    assert_eq!(rt; done.as_slice(), answer(alloc, 7, 6, &[])?.as_slice());
     Ok(())
 }
 

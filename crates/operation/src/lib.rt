@@ -16,6 +16,3 @@ pub use saying::reply_finding;
 pub use sending::{Errand, Poll, Purpose, Sending};
 pub use spelling::spell_delete;
 pub use stage::Stage;
-
-#[cfg(test)]
-mod tests;

@@ -1,14 +1,13 @@
-//! Logs on disks in memory and in a file, with segments of 4,096 bytes.
+//! A script of records for logs on disks in memory, with segments of 4,096 bytes.
 
 ghost use Rattle.std.specs.Prelude.{◌≡◌, ◌^◌, ◌<◌, IfOk};
 ghost use Rattle.msg_format.specs.Records.{IsRecord, lsn_of};
 
 use crate::{Found, LogFault, LogSettings, OpenFault, PartLog};
 use blob_id::{Blob, BlobId, Bytes, Kind, Memory};
-use disk_core::{Bays, Disk, FileBays, MemDisk, Pick};
+use disk_core::{Disk, MemDisk, Pick};
 use msg_format::{Head, Record, encode};
 use std::alloc::Global;
-use std::fs;
 use std::process::Abort;
 use std::test::Fail;
 
@@ -152,172 +151,5 @@ pub(crate) fn assert_written<D: Disk>(
         let entry = record_of(alloc, lsn as u64, *size)?;
         assert_stands(rt, alloc, disk, &entry, *place)?;
     }
-    Ok(())
-}
-
-/// Numbers of segments, and records that are appended, by their sizes. Each is answered with its place, or with Full.
-const PACKINGS: [(u16, &[(u16, Option<u64>)]); 10] = [
-    // As long as a record can be: a closed gate has to stand behind it.
-    (2, &[(4095, Some(4096)), (38, None)]),
-    // One byte too many. Smaller records are still taken.
-    (2, &[(4096, None), (38, Some(4096)), (4096, None)]),
-    // The second record fills the segment, and no other segment may be used.
-    (2, &[(4000, Some(4096)), (95, Some(8096)), (38, None)]),
-    // A full log that takes a smaller record.
-    (2, &[(4000, Some(4096)), (96, None), (95, Some(8096))]),
-    // Two segments of three, each filled by one record.
-    (3, &[(4095, Some(4096)), (4095, Some(8192)), (38, None)]),
-    // One byte too many for the first segment, which is then left as it is.
-    (
-        3,
-        &[
-            (4000, Some(4096)),
-            (96, Some(8192)),
-            (38, Some(8288)),
-            (3961, Some(8326)),
-            (38, None),
-        ],
-    ),
-    // Records that are longer than a segment, at every stage.
-    (
-        3,
-        &[
-            (5000, None),
-            (2048, Some(4096)),
-            (4096, None),
-            (2048, Some(8192)),
-            (65535, None),
-            (2047, Some(10240)),
-            (4096, None),
-            (38, None),
-        ],
-    ),
-    // Three records fill a segment.
-    (
-        4,
-        &[
-            (1365, Some(4096)),
-            (1365, Some(5461)),
-            (1365, Some(6826)),
-            (1365, Some(8192)),
-            (1365, Some(9557)),
-            (1365, Some(10922)),
-            (1365, Some(12288)),
-            (1365, Some(13653)),
-            (1365, Some(15018)),
-            (1365, None),
-            (38, None),
-        ],
-    ),
-    // Deletes and puts: an exact fit in the first segment, one byte too many in the second.
-    (
-        4,
-        &[
-            (38, Some(4096)),
-            (4057, Some(4134)),
-            (38, Some(8192)),
-            (4058, Some(12288)),
-            (38, None),
-            (45, None),
-        ],
-    ),
-    // A full log that takes smaller records until it is filled.
-    (
-        3,
-        &[
-            (3000, Some(4096)),
-            (3000, Some(8192)),
-            (3000, None),
-            (1057, Some(11192)),
-            (1057, None),
-            (38, Some(12249)),
-            (38, None),
-        ],
-    ),
-];
-
-/// Appends records to a new log, each of which is answered as the table says.
-fn assert_packing(
-    rt: &impl Abort,
-    alloc: Global,
-    segments: u16,
-    appends: &[(u16, Option<u64>)],
-) -> Result<(), Fail> {
-    let disk = new_disk(alloc, segments, Pick::Keep)?;
-    let Ok((mut log, found)) = open_log(rt, alloc, disk, segments) else {
-        panic!(rt; "no log")
-    };
-    assert!(rt; found.is_empty());
-    for (size, place) in appends {
-        let wanted = match place {
-            Some(place) => Ok(*place),
-            None => Err(LogFault::Full),
-        };
-        assert_eq!(rt;
-            append_sized(alloc, &mut log, *size),
-            wanted,
-            "{size} bytes"
-        );
-    }
-    Ok(())
-}
-
-#[test]
-fn full_comes_where_no_segment_has_room(rt: HostRuntime) -> Result<(), Fail> {
-    for (segments, appends) in PACKINGS {
-        assert_packing(&rt, rt.alloc(), segments, appends)?;
-    }
-    Ok(())
-}
-
-#[test]
-fn a_delete_stands_at_its_place(rt: HostRuntime) -> Result<(), Fail> {
-    let alloc = rt.alloc();
-    let disk = new_disk(alloc, 2, Pick::Keep)?;
-    let Ok((mut log, _)) = open_log(&rt, alloc, disk, 2) else {
-        panic!(rt; "no log")
-    };
-    for _ in 0..8 {
-        append_sized(alloc, &mut log, 38)?;
-    }
-    let mut disk = log.close();
-    let mut bytes = [0; 40];
-    assert!(rt; disk.size() == 12288);
-    disk.read(4096 + 7 * 38, &mut bytes)?;
-    // The delete of the id of zeros at lsn 7, with created 5, then a closed gate, then what was there before.
-    let wanted = [
-        0x4F, 2, 0, 0, 0, 0, 0, 0, 0, 7, 1, 0, 0, 0, 0, 0, 0, 0, 0, 0, 0x40, 0, 0x80, 0, 0, 0, 0,
-        0, 0, 0, 0, 0, 0, 0, 0, 0, 0, 5, 0, 0x4F,
-    ];
-    assert_eq!(rt; bytes, wanted);
-    Ok(())
-}
-
-/// Opens a log that has so many records of the script, puts the next one last, and closes it.
-fn grow<D: Disk + Drop>(rt: &impl Abort, alloc: Global, disk: D, count: usize) -> Result<D, Fail> {
-    let Ok((mut log, found)) = open_log(rt, alloc, disk, 5) else {
-        panic!(rt; "no log")
-    };
-    assert_eq!(rt; found.len(), count);
-    assert_found(rt, found.as_slice());
-    if let Some((size, place)) = SCRIPT.get(count) {
-        assert_eq!(rt; append_sized(alloc, &mut log, *size), Ok(*place));
-    }
-    let mut disk = log.close();
-    assert_written(rt, alloc, &mut disk, count)?;
-    Ok(disk)
-}
-
-#[test]
-fn a_log_in_a_file_is_kept(rt: HostRuntime) -> Result<(), Fail> {
-    let alloc = rt.alloc();
-    let folder = "part_log_test_folder";
-    let mut bays = FileBays::new(alloc, rt);
-    for count in 0..=SCRIPT.len() {
-        let disk = bays.open(folder, 0, 0, 24_576)?;
-        let disk = grow(&rt, alloc, disk, count)?;
-        bays.give_back(0, 0, disk);
-    }
-    fs::remove_dir_all(&rt, folder)?;
     Ok(())
 }

@@ -7,69 +7,6 @@ use std::alloc::Global;
 use std::process::Abort;
 use std::test::Fail;
 
-/// The calls of an opening of a log without records: a sync, and reads of the manifest's cell and of the first segment.
-const OPENING: u64 = 3;
-
-/// A disk with a log of two segments and no records.
-fn fresh_log(rt: &impl Abort, alloc: Global, pick: Pick) -> Result<MemDisk, Fail> {
-    let Ok((log, _)) = open_log(rt, alloc, new_disk(alloc, 2, pick)?, 2) else {
-        panic!(rt; "no log")
-    };
-    Ok(log.close())
-}
-
-/// How many records a disk has after a stop.
-fn count_left<D: Disk + Drop>(rt: &impl Abort, alloc: Global, mut disk: D) -> usize {
-    disk.stopped();
-    let Ok((log, found)) = open_log(rt, alloc, disk, 2) else {
-        panic!(rt; "no log")
-    };
-    assert_found(rt, found.as_slice());
-    found.len()
-}
-
-/// Appends one record to a log whose disk passes so many calls of the append: how many records a stop leaves.
-fn append_cut(rt: &impl Abort, alloc: Global, pick: Pick, passes: u32) -> Result<usize, Fail> {
-    let disk = FuseDisk::new(fresh_log(rt, alloc, pick)?, OPENING + u64::from(passes));
-    let Ok((mut log, found)) = open_log(rt, alloc, disk, 2) else {
-        panic!(rt; "no log")
-    };
-    assert!(rt; found.is_empty());
-    let (size, place) = SCRIPT[0];
-    let answer = append_sized(alloc, &mut log, size);
-    if passes < 4 {
-        assert_eq!(rt; answer, Err(LogFault::Failed));
-        assert_eq!(rt; append_sized(alloc, &mut log, size), Err(LogFault::Down));
-    } else {
-        assert_eq!(rt; answer, Ok(place));
-    }
-    Ok(count_left(rt, alloc, log.close()))
-}
-
-/// Cuts an append off in each of its calls. `opened` is how many records a stop leaves that finds the open gate written
-/// and not synced.
-fn assert_cuts(rt: &impl Abort, alloc: Global, pick: Pick, opened: usize) -> Result<(), Fail> {
-    // Two calls write the record behind a closed gate, and two open the gate.
-    for (passes, left) in [(0, 0), (1, 0), (2, opened), (3, opened), (4, 1)] {
-        let count = append_cut(rt, alloc, pick, passes)?;
-        assert_eq!(rt; count, left, "cut after {passes} calls at {pick:?}");
-    }
-    Ok(())
-}
-
-#[test]
-fn a_cut_append_leaves_its_record_or_not(rt: HostRuntime) -> Result<(), Fail> {
-    for (pick, opened) in [
-        (Pick::Keep, 1),
-        (Pick::Drop, 0),
-        (Pick::Fill(0x4F), 1),
-        (Pick::Fill(0), 0),
-    ] {
-        assert_cuts(&rt, rt.alloc(), pick, opened)?;
-    }
-    Ok(())
-}
-
 /// The calls of the whole script: an opening of a new disk makes 9, each append 4, the first roll 7, and each later one 9,
 /// since it closes a slot of the manifest first.
 const CALLS: u64 = 114;

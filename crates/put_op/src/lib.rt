@@ -7,6 +7,3 @@ mod spelling;
 
 pub use drawn::Want;
 pub use put::PutOp;
-
-#[cfg(test)]
-mod tests;

@@ -3,13 +3,11 @@
 ghost use Rattle.std.specs.Prelude.{IfOk};
 ghost use Rattle.blob_id.specs.Blob.{IsBlob};
 ghost use Rattle.cell_model.specs.Cells.{HoldsBlob};
-ghost use Rattle.cell_model.specs.Asks.{AsksInRange};
 
 use crate::{LogSettings, Replica};
 use blob_id::{Blob, BlobId, Bytes, Kind, Memory};
-use cell_model::{Ask, Cell, ReplicaPort, Reply};
+use cell_model::{Cell, Reply};
 use disk_core::{Disk, FuseDisk, MemDisk, Pick};
-use find_token::FindToken;
 use outside::Failed;
 use std::alloc::Global;
 use std::process::Abort;
@@ -28,11 +26,6 @@ enum Answer {
     Full,
     Fault,
     Down,
-    Page(usize, FindToken),
-    End(u64),
-    Token(FindToken),
-    Nothing,
-    NoPlan,
     Other,
 }
 
@@ -48,11 +41,6 @@ fn answer_of(reply: &Reply) -> Answer {
         Reply::Full => Answer::Full,
         Reply::Fault => Answer::Fault,
         Reply::Down => Answer::Down,
-        Reply::Page(page) => Answer::Page(page.entries.len(), page.next),
-        Reply::End(lsn) => Answer::End(*lsn),
-        Reply::Token(token) => Answer::Token(*token),
-        Reply::Nothing => Answer::Nothing,
-        Reply::NoPlan => Answer::NoPlan,
         _ => Answer::Other,
     }
 }
@@ -247,30 +235,6 @@ fn assert_kept(
     Ok(())
 }
 
-const DELETED: [(Step, Answer); 11] = [
-    (Step::Get(1), Answer::Absent),
-    (Step::Put(1, 2), Answer::Stored),
-    (Step::Put(1, 2), Answer::There),
-    (Step::Put(1, 3), Answer::Clash),
-    (Step::Get(1), Answer::Blob(2)),
-    (Step::Peek(1), Answer::There),
-    (Step::Peek(2), Answer::Absent),
-    (Step::Delete(1), Answer::Done),
-    (Step::Put(1, 2), Answer::Gone),
-    (Step::Get(1), Answer::Gone),
-    (Step::Peek(1), Answer::Gone),
-];
-
-const STAYS_GONE: [(Step, Answer); 2] = [
-    (Step::Get(1), Answer::Gone),
-    (Step::Put(1, 2), Answer::Gone),
-];
-
-#[test]
-fn what_is_deleted_stays_gone(rt: HostRuntime) -> Result<(), Fail> {
-    assert_kept(&rt, rt.alloc(), &DELETED, &STAYS_GONE, 2)
-}
-
 /// One put and two deletes are written: what leaves its cell writes no record.
 const MERGED: [(Step, Answer); 9] = [
     (Step::MergeAbsent(1), Answer::Done),
@@ -293,32 +257,6 @@ const JOINED: [(Step, Answer); 3] = [
 #[test]
 fn merges_join(rt: HostRuntime) -> Result<(), Fail> {
     assert_kept(&rt, rt.alloc(), &MERGED, &JOINED, 3)
-}
-
-/// A put has 45 bytes beside its body, and one byte of a segment stays free. What leaves its cell has always room.
-const FILLED: [(Step, Answer); 11] = [
-    (Step::Put(1, 4051), Answer::Full),
-    (Step::Put(1, 4050), Answer::Stored),
-    (Step::Put(2, 4000), Answer::Stored),
-    (Step::Put(3, 6), Answer::Full),
-    (Step::MergeBlob(3, 6), Answer::Full),
-    (Step::Get(3), Answer::Absent),
-    (Step::Put(3, 5), Answer::Stored),
-    (Step::Delete(1), Answer::Full),
-    (Step::Put(1, 4050), Answer::There),
-    (Step::MergeBlob(1, 1), Answer::Done),
-    (Step::Get(1), Answer::Blob(4050)),
-];
-
-const FOUND: [(Step, Answer); 3] = [
-    (Step::Get(1), Answer::Blob(4050)),
-    (Step::Get(2), Answer::Blob(4000)),
-    (Step::Get(3), Answer::Blob(5)),
-];
-
-#[test]
-fn full_comes_where_no_segment_has_room(rt: HostRuntime) -> Result<(), Fail> {
-    assert_kept(&rt, rt.alloc(), &FILLED, &FOUND, 3)
 }
 
 /// Lists of asks of new replicas, each with the segments of its disk. Of each list the records are laid one behind the other: a put's
@@ -425,88 +363,6 @@ fn records_are_packed_into_segments(rt: HostRuntime) -> Result<(), Fail> {
         let mut replica = open(&rt, rt.alloc(), disk, *segments);
         assert_steps(&rt, rt.alloc(), &mut replica, steps)?;
     }
-    Ok(())
-}
-
-/// An ask through the port.
-fn asked<P: ReplicaPort>(port: &mut P, ask: Ask) -> Answer
-    requires ready { P.ready port.old }
-    requires range { AsksInRange ask }
-{
-    answer_of(&port.ask(ask))
-}
-
-#[test]
-fn a_replica_is_a_port(rt: HostRuntime) -> Result<(), Fail> {
-    let alloc = rt.alloc();
-    let mut replica = open(&rt, alloc, new_disk(alloc, 2, Pick::Drop)?, 2);
-    let blob = blob_of(alloc, 2)?;
-    let id = id_of(1);
-    assert_eq!(rt; asked(&mut replica, Ask::Put { id, blob }), Answer::Stored);
-    assert_eq!(rt;
-        asked(&mut replica, Ask::Delete { id, at: 9 }),
-        Answer::Done
-    );
-    assert_eq!(rt; asked(&mut replica, Ask::Get { id }), Answer::Gone);
-    Ok(())
-}
-
-#[test]
-fn a_replica_tells_of_its_log(rt: HostRuntime) -> Result<(), Fail> {
-    let alloc = rt.alloc();
-    let mut replica = open(&rt, alloc, new_disk(alloc, 2, Pick::Drop)?, 2);
-    let blob = blob_of(alloc, 2)?;
-    let token = FindToken::Journal(0);
-    assert_eq!(rt; asked(&mut replica, Ask::End), Answer::End(0));
-    assert_eq!(rt;
-        asked(&mut replica, Ask::Put { id: id_of(1), blob }),
-        Answer::Stored
-    );
-    assert_eq!(rt; asked(&mut replica, Ask::End), Answer::End(1));
-    assert_eq!(rt;
-        asked(&mut replica, Ask::Find { token, max: 1 }),
-        Answer::Page(0, token)
-    );
-    assert_eq!(rt;
-        asked(&mut replica, Ask::SaveToken { peer: 2, token }),
-        Answer::Done
-    );
-    assert_eq!(rt;
-        asked(&mut replica, Ask::Token { peer: 2 }),
-        Answer::Token(FindToken::Start)
-    );
-    assert_eq!(rt; asked(&mut replica, Ask::CompactBegin), Answer::Nothing);
-    assert_eq!(rt;
-        asked(&mut replica, Ask::CompactStep { records: 1 }),
-        Answer::NoPlan
-    );
-    assert_eq!(rt; asked(&mut replica, Ask::CompactCommit), Answer::NoPlan);
-    Ok(())
-}
-
-#[test]
-fn a_replica_that_is_down_tells_nothing(rt: HostRuntime) -> Result<(), Fail> {
-    let alloc = rt.alloc();
-    let disk = run(&rt, alloc, new_disk(alloc, 2, Pick::Drop)?, 2, &[], 0)?;
-    let mut replica = open(&rt, alloc, fused(disk, OPENING), 2);
-    assert_steps(&rt, alloc, &mut replica, &CUT)?;
-    let token = FindToken::Start;
-    assert_eq!(rt;
-        asked(&mut replica, Ask::Find { token, max: 1 }),
-        Answer::Down
-    );
-    assert_eq!(rt; asked(&mut replica, Ask::End), Answer::Down);
-    assert_eq!(rt; asked(&mut replica, Ask::Token { peer: 2 }), Answer::Down);
-    assert_eq!(rt;
-        asked(&mut replica, Ask::SaveToken { peer: 2, token }),
-        Answer::Down
-    );
-    assert_eq!(rt; asked(&mut replica, Ask::CompactBegin), Answer::Down);
-    assert_eq!(rt;
-        asked(&mut replica, Ask::CompactStep { records: 1 }),
-        Answer::Down
-    );
-    assert_eq!(rt; asked(&mut replica, Ask::CompactCommit), Answer::Down);
     Ok(())
 }
 

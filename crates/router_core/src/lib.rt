@@ -14,6 +14,3 @@ pub use ending::Ended;
 pub use live::Live;
 pub use op::Op;
 pub use router::{Router, Stage};
-
-#[cfg(test)]
-mod tests;

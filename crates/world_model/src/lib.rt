@@ -22,6 +22,3 @@ pub use schedules::{ListMoves, SeedMoves};
 pub use seeds::Seeds;
 pub use shape::{LogNumbers, Shape, node_of};
 pub use step::{Called, Event, Numbers, Step, Steps};
-
-#[cfg(test)]
-mod tests;
