@@ -1,6 +1,6 @@
 -- The parts of a blob in front of its body, and whole blobs.
 use Rattle.std.proofs.Common.{◌≡◌, ◌∙◌, ◌≢◌, ℕ, ◌+◌, ◌^◌, ◌<◌, ◌≤◌, not, nat_le, Bool, true, false, List, [], ◌∷◌, ◌++◌, length, Option, Some, refl, sym, ap, subst, append_assoc, arith, true≢false}
-use Rattle.std.proofs.lemmas.Bool.{leb-true, le-leb}
+use Rattle.std.proofs.lemmas.Bool.{leb-true, le-leb, and_parts}
 use Rattle.std.proofs.lemmas.List.{length-append}
 use Rattle.std.proofs.lemmas.Slice.Eq.{bytes_eq-Decides}
 use Rattle.std.specs.List.{list_all}
@@ -11,8 +11,7 @@ use Rattle.blob_id.specs.declared.blob.Blob.{Blob}
 use Rattle.blob_id.specs.Blob.{IsBlob, is_type_byte}
 use Rattle.field_codec.specs.Spelling.{IsBytes, sized, blob_text, blob_size}
 use Rattle.field_codec.specs.Reading.{◌>>=◌, where_true, number_at, piece_at, sized_at, is_type, Front, front_at, blob_at}
-use Rattle.field_codec.proofs.Tools.{bind_some, bind_is, where_some, found, some_is, both, Takes, Takes-then}
-use Rattle.field_codec.proofs.Fields.{number_takes, number_again, piece_takes, piece_again, sized_takes, sized_again}
+use Rattle.field_codec.proofs.Spells.{Spells, number, field, last, last_where, guard, restated, piece, sized_of}
 
 -- ---- types
 
@@ -35,65 +34,17 @@ pub record IsFront (front : Front) : Type 0 where
   pub meta_length : length front.meta ≤ 1024
   pub body_length : front.body_len ≤ 4194304
 
-abbrev front_made : ℕ → List ℕ → List ℕ → ℕ × List ℕ → Option (Front × List ℕ)
-front_made created ctype meta len = where_true (nat_le len.0 4194304) (Some (record { created = created; ctype = ctype; meta = meta; body_len = len.0 }, len.1))
+abbrev front : ℕ → List ℕ → List ℕ → ℕ → Front
+front created ctype meta len = record { created = created; ctype = ctype; meta = meta; body_len = len }
 
-abbrev front_behind_meta : ℕ → List ℕ → List ℕ × List ℕ → Option (Front × List ℕ)
-front_behind_meta created ctype meta = number_at 4 meta.1 >>= front_made created ctype meta.0
-
-abbrev front_behind_type : ℕ → List ℕ × List ℕ → Option (Front × List ℕ)
-front_behind_type created ctype = where_true (is_type ctype.0) (sized_at 2 1024 ctype.1) >>= front_behind_meta created ctype.0
-
-abbrev front_behind_created : ℕ × List ℕ → Option (Front × List ℕ)
-front_behind_created created = sized_at 1 64 created.1 >>= front_behind_type created.0
-
-front_is : (bytes : List ℕ) → front_at bytes ≡ (number_at 8 bytes >>= front_behind_created)
+pub front_spelled : Spells front_text front_at IsFront
 unfolding front_at
-front_is bytes = refl
-
-pub front_takes : (bytes : List ℕ) (front : Front) (rest : List ℕ) → IsBytes bytes → front_at bytes ≡ Some (front, rest) → Takes bytes (front_text front) rest × IsFront front
-front_takes bytes front rest fits e =
-    let a = bind_some (number_at 8 bytes) front_behind_created (front, rest) (sym (front_is bytes) ∙ e) in
-    let b = bind_some (sized_at 1 64 a.0.1) (front_behind_type a.0.0) (front, rest) a.2 in
-    let c = bind_some (where_true (is_type b.0.0) (sized_at 2 1024 b.0.1)) (front_behind_meta a.0.0 b.0.0) (front, rest) b.2 in
-    let d = bind_some (number_at 4 c.0.1) (front_made a.0.0 b.0.0 c.0.0) (front, rest) c.2 in
-    let w = where_some (is_type b.0.0) (sized_at 2 1024 b.0.1) c.0 c.1 in
-    let made : Front × List ℕ = (record { created = a.0.0; ctype = b.0.0; meta = c.0.0; body_len = d.0.0 }, d.0.1) in
-    let v = where_some (nat_le d.0.0 4194304) (found made) (front, rest) d.2 in
-    let t0 = number_takes 8 bytes a.0.0 a.0.1 fits a.1 in
-    let t1 = sized_takes 1 64 a.0.1 b.0.0 b.0.1 t0.0.rest_fits b.1 in
-    let t2 = sized_takes 2 1024 b.0.1 c.0.0 c.0.1 t1.0.rest_fits w.1 in
-    let t3 = number_takes 4 c.0.1 d.0.0 d.0.1 t2.0.rest_fits d.1 in
-    let e23 = Takes-then b.0.1 (sized 2 c.0.0) c.0.1 (big_bytes 4 d.0.0) d.0.1 t2.0 t3.0 in
-    let e13 = Takes-then a.0.1 (sized 1 b.0.0) b.0.1 (sized 2 c.0.0 ++ big_bytes 4 d.0.0) d.0.1 t1.0 e23 in
-    let e03 = Takes-then bytes (big_bytes 8 a.0.0) a.0.1 (sized 1 b.0.0 ++ (sized 2 c.0.0 ++ big_bytes 4 d.0.0)) d.0.1 t0.0 e13 in
-    let limit : d.0.0 ≤ 4194304 = leb-true _ _ v.0 in
-    subst (λ (p : Front × List ℕ). Takes bytes (front_text p.0) p.1 × IsFront p.0) (some_is made (front, rest) v.1)
-    (e03, record { created = t0.1; type_length = t1.1; ctype = w.0; meta_length = t2.1; body_length = limit })
-
--- four texts and what is behind them
-parts_split : (a b c d rest : List ℕ) → (a ++ (b ++ (c ++ d))) ++ rest ≡ a ++ (b ++ (c ++ (d ++ rest)))
-parts_split a b c d rest = simp append_assoc
-
-where_is : {A : Type 0} (test : Bool) (o : Option A) → test ≡ true → where_true test o ≡ o
-where_is test o e = rw e refl
-
-pub front_again : (front : Front) (rest : List ℕ) → IsFront front → front_at (front_text front ++ rest) ≡ Some (front, rest)
-front_again front rest is =
-    let a = big_bytes 8 front.created in
-    let b = sized 1 front.ctype in
-    let c = sized 2 front.meta in
-    let d = big_bytes 4 front.body_len in
-    let l1 : length front.ctype < 256 ^ 1 = omega (arith, is.type_length) in
-    let l2 : length front.meta < 256 ^ 2 = omega (arith, is.meta_length) in
-    let l4 : front.body_len < 256 ^ 4 = omega (arith, is.body_length) in
-    let m : ℕ × List ℕ = (front.body_len, rest) in
-    ap front_at (parts_split a b c d rest) ∙ front_is (a ++ (b ++ (c ++ (d ++ rest))))
-    ∙ bind_is (number_at 8 (a ++ (b ++ (c ++ (d ++ rest))))) front_behind_created (front.created, b ++ (c ++ (d ++ rest))) (number_again 8 front.created (b ++ (c ++ (d ++ rest))) is.created)
-    ∙ bind_is (sized_at 1 64 (b ++ (c ++ (d ++ rest)))) (front_behind_type front.created) (front.ctype, c ++ (d ++ rest)) (sized_again 1 64 front.ctype (c ++ (d ++ rest)) l1 is.type_length)
-    ∙ bind_is (where_true (is_type front.ctype) (sized_at 2 1024 (c ++ (d ++ rest)))) (front_behind_meta front.created front.ctype) (front.meta, d ++ rest) (where_is (is_type front.ctype) _ is.ctype ∙ sized_again 2 1024 front.meta (d ++ rest) l2 is.meta_length)
-    ∙ bind_is (number_at 4 (d ++ rest)) (front_made front.created front.ctype front.meta) m (number_again 4 front.body_len rest l4)
-    ∙ where_is (nat_le front.body_len 4194304) _ (le-leb front.body_len 4194304 is.body_length)
+front_spelled = restated (λ f. refl)
+    (λ f is. record { created = is.0; type_length = is.1.0; ctype = is.1.1.0.0; meta_length = is.1.1.0.1; body_length = leb-true _ _ is.1.1.1.1 })
+    (λ f is. (is.created, (is.type_length, ((is.ctype, is.meta_length), (omega (arith, is.body_length), le-leb _ _ is.body_length, refl)))))
+    (field (λ f. f.created) (number 8) (λ a. field (λ f. f.ctype) (sized_of 1 64 (omega arith)) (λ t. field (λ f. f.meta) (guard (is_type t) (sized_of 2 1024 (omega arith)))
+      (λ m. last_where (λ len. nat_le len 4194304) (λ f. f.body_len) (front a t m) (number 4) (λ c. refl))
+      (λ m f is. ap (λ f. f.meta) (sym is.2))) (λ t f is. ap (λ f. f.ctype) (sym is.1.2))) (λ a f is. ap (λ f. f.created) (sym is.1.1.2)))
 
 -- ---- blobs
 
@@ -111,7 +62,7 @@ blob_text-parts blob = parts (big_bytes 8 blob.created) (sized 1 blob.ctype) (si
 
 pub front_is_blob : (front : Front) (body : List ℕ) → IsFront front → length body ≡ front.body_len → IsBlob (blob_of front body)
 front_is_blob front body is len =
-    let t = both (list_all is_type_byte front.ctype) (not (bytes_eq front.ctype (45 ∷ []))) is.ctype in
+    let t = and_parts (list_all is_type_byte front.ctype) (not (bytes_eq front.ctype (45 ∷ []))) is.ctype in
     record {
       created = is.created;
       type_length = is.type_length;
@@ -132,41 +83,11 @@ blob_is_front blob is =
       body_length = is.body_length;
     }
 
-abbrev whole_blob : Front × List ℕ → Option (Blob × List ℕ)
-whole_blob front = piece_at (front.0).body_len front.1 >>= λ body. Some (blob_of front.0 body.0, body.1)
-
-blob_is : (bytes : List ℕ) → blob_at bytes ≡ (front_at bytes >>= whole_blob)
+pub blob_spelled : Spells blob_text blob_at IsBlob
 unfolding blob_at
-blob_is bytes = refl
-
-pub blob_takes : (bytes : List ℕ) (blob : Blob) (rest : List ℕ) → IsBytes bytes → blob_at bytes ≡ Some (blob, rest) → Takes bytes (blob_text blob) rest × IsBlob blob
-blob_takes bytes blob rest fits e =
-    let f = bind_some (front_at bytes) whole_blob (blob, rest) (sym (blob_is bytes) ∙ e) in
-    let b = bind_some (piece_at (f.0.0).body_len f.0.1) (λ body. found (blob_of f.0.0 body.0, body.1)) (blob, rest) f.2 in
-    let t = front_takes bytes f.0.0 f.0.1 fits f.1 in
-    let p = piece_takes (f.0.0).body_len f.0.1 b.0.0 b.0.1 t.0.rest_fits b.1 in
-    let made : Blob × List ℕ = (blob_of f.0.0 b.0.0, b.0.1) in
-    let front_same : front_of made.0 ≡ f.0.0 = ap (λ (n : ℕ). record { created = (f.0.0).created; ctype = (f.0.0).ctype; meta = (f.0.0).meta; body_len = n }) p.1 in
-    let text : front_text f.0.0 ++ b.0.0 ≡ blob_text made.0 = ap (λ (x : Front). front_text x ++ b.0.0) (sym front_same) ∙ sym (blob_text-parts made.0) in
-    let taken : Takes bytes (front_text f.0.0 ++ b.0.0) b.0.1 = Takes-then bytes (front_text f.0.0) f.0.1 b.0.0 b.0.1 t.0 p.0 in
-    let fine : Takes bytes (blob_text made.0) made.1 = subst (λ (x : List ℕ). Takes bytes x b.0.1) text taken in
-    subst (λ (x : Blob × List ℕ). Takes bytes (blob_text x.0) x.1 × IsBlob x.0) (some_is made (blob, rest) b.2) (fine, front_is_blob f.0.0 b.0.0 t.1 p.1)
-
-pub blob_again : (blob : Blob) (rest : List ℕ) → IsBlob blob → blob_at (blob_text blob ++ rest) ≡ Some (blob, rest)
-blob_again blob rest is =
-    let split : blob_text blob ++ rest ≡ front_text (front_of blob) ++ (blob.body ++ rest) =
-    ap (λ (x : List ℕ). x ++ rest) (blob_text-parts blob) ∙ append_assoc (front_text (front_of blob)) blob.body rest in
-    let f : Front × List ℕ = (front_of blob, blob.body ++ rest) in
-    ap blob_at split ∙ blob_is (front_text (front_of blob) ++ (blob.body ++ rest))
-    ∙ bind_is (front_at (front_text (front_of blob) ++ (blob.body ++ rest))) whole_blob f (front_again (front_of blob) (blob.body ++ rest) (blob_is_front blob is))
-    ∙ bind_is (piece_at (length blob.body) (blob.body ++ rest)) (λ body. found (blob_of (front_of blob) body.0, body.1)) (blob.body, rest) (piece_again (length blob.body) blob.body rest refl)
-
--- no spelling of a blob begins another one
-pub blobs_apart : (a b : Blob) (x y : List ℕ) → IsBlob a → IsBlob b → blob_text a ++ x ≡ blob_text b ++ y → (a ≡ b) × (x ≡ y)
-blobs_apart a b x y ha hb e =
-    let same : found (a, x) ≡ found (b, y) = sym (blob_again a x ha) ∙ ap blob_at e ∙ blob_again b y hb in
-    let pair = some_is (a, x) (b, y) same in
-    (ap (λ (p : Blob × List ℕ). p.0) pair, ap (λ (p : Blob × List ℕ). p.1) pair)
+blob_spelled = restated (λ b. sym (blob_text-parts b)) (λ b is. subst IsBlob is.1.1 (front_is_blob (front_of b) b.body is.0 is.1.0)) (λ b is. (blob_is_front b is, (refl, refl)))
+    (field front_of front_spelled (λ f. last (λ b. b.body) (blob_of f) (piece f.body_len) (λ c. refl))
+      (λ f b is. ap front_of (sym is.1) ∙ ap (λ (n : ℕ). front f.created f.ctype f.meta n) is.0))
 
 length_sized : (n : ℕ) (text : List ℕ) → length (sized n text) ≡ n + length text
 length_sized n text = length-append (big_bytes n (length text)) text ∙ ap (λ (k : ℕ). k + length text) (length-bytes_high_first n (length text))

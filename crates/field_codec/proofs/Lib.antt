@@ -3,3 +3,5 @@ pub mod Tools
 pub mod Fields
 pub mod Fronts
 pub mod Firsts
+pub mod Spells
+pub mod CountedLists

@@ -7,9 +7,10 @@ use Rattle.byteorder.specs.Endian.{big_bytes}
 use Rattle.blob_id.specs.declared.blob.Blob.{Blob}
 use Rattle.field_codec.specs.Spelling.{IsBytes, blob_text}
 use Rattle.field_codec.specs.Reading.{◌>>=◌, where_true, number_at, Front, front_at}
-use Rattle.field_codec.proofs.Tools.{bind_some, bind_is, where_some, found, some_is}
+use Rattle.std.proofs.lemmas.Option.{same_Some}
+use Rattle.field_codec.proofs.Tools.{bind_some, bind_is, where_some, found}
 use Rattle.field_codec.proofs.Fields.{number_takes, number_again}
-use Rattle.field_codec.proofs.Fronts.{front_text, front_of, blob_of, front_takes, front_again, front_is_blob, blob_is_front, blob_text-parts, length-front_text}
+use Rattle.field_codec.proofs.Fronts.{front_text, front_of, blob_of, front_spelled, front_is_blob, blob_is_front, blob_text-parts, length-front_text}
 use Rattle.field_codec.proofs.Firsts.{grown, number_first, front_first}
 use Rattle.msg_format.specs.declared.record.Record.{Record}
 use Rattle.msg_format.specs.declared.record.Record.TheVariants.{Put, Delete}
@@ -74,7 +75,7 @@ content_head_again len (Put lsn id blob) rest is le =
     let small : nat_le (put_size front) len ≡ true = le-leb (put_size front) len (omega (arith, put_size_of blob)) in
     let head = λ (n : ℕ). let h : Head = record { lsn = lsn; id = id; gone = false; len = n } in found h in
     ap (λ (x : List ℕ). front_at x >>= λ f. put_head len start f.0) split
-    ∙ bind_is (front_at (front_text front ++ (blob.body ++ rest))) (λ f. put_head len start f.0) (front, blob.body ++ rest) (front_again front (blob.body ++ rest) (blob_is_front blob is))
+    ∙ bind_is (front_at (front_text front ++ (blob.body ++ rest))) (λ f. put_head len start f.0) (front, blob.body ++ rest) (front_spelled.again front (blob.body ++ rest) (blob_is_front blob is))
     ∙ ap (λ (b : Bool). where_true b (head (put_size front))) small ∙ ap head (put_size_of blob)
 content_head_again len (Delete lsn id created) rest is le =
     let head : Head = record { lsn = lsn; id = id; gone = true; len = 38 } in
@@ -119,7 +120,7 @@ delete_head len lsn id front more head fits e =
       content = t.1;
       rest = b.0.1 ++ more;
       parts = ap (λ (x : List ℕ). x ++ more) t.0.parts ∙ append_assoc (big_bytes 8 b.0.0) b.0.1 more;
-      head_is = sym (some_is made head b.2);
+      head_is = sym (same_Some made head b.2);
     }
 
 put_head_is : (len lsn : ℕ) (id front more : List ℕ) (head : Head) → IsBytes front → length front + length more + 30 ≡ len → content_head len (record { gone = false; lsn = lsn; id = id }) front ≡ Some head
@@ -132,7 +133,7 @@ put_head_is len lsn id front more head fits all e =
     let made : Head = record { lsn = lsn; id = id; gone = false; len = put_size f } in
     let w = where_some (nat_le (put_size f) len) (found made) head b.2 in
     let le : put_size f ≤ len = leb-true _ _ w.0 in
-    let t = front_takes front f b.0.1 fits b.1 in
+    let t = front_spelled.takes front f b.0.1 fits b.1 in
     let behind = b.0.1 ++ more in
     let size : length front ≡ length (front_text f) + length b.0.1 = ap length t.0.parts ∙ length-append (front_text f) b.0.1 in
     let texts : length (front_text f) ≡ 15 + length f.ctype + length f.meta = length-front_text f in
@@ -153,7 +154,7 @@ put_head_is len lsn id front more head fits all e =
       content = front_is_blob f body t.1 body_is;
       rest = rest;
       parts = joined ∙ ap (λ (x : List ℕ). front_text f ++ x) cut ∙ text;
-      head_is = sym (some_is made head w.1) ∙ ap (λ (n : ℕ). record { lsn = lsn; id = id; gone = false; len = n }) head_size;
+      head_is = sym (same_Some made head w.1) ∙ ap (λ (n : ℕ). record { lsn = lsn; id = id; gone = false; len = n }) head_size;
     }
 
 has_content : (len : ℕ) (gone : Bool) (lsn : ℕ) (id front more : List ℕ) (head : Head) → IsBytes front → length front + length more + 30 ≡ len → content_head len (record { gone = gone; lsn = lsn; id = id }) front ≡ Some head

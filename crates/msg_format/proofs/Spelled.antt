@@ -1,19 +1,22 @@
 -- A record is read exactly where it is spelled.
-use Rattle.std.proofs.Common.{◌≡◌, ◌∙◌, ℕ, ◌+◌, ◌-◌, Bool, true, false, cond, List, ◌∷◌, ◌++◌, length, Option, Some, None, refl, sym, ap, subst, append_assoc, arith}
+use Rattle.std.proofs.Common.{◌≡◌, ◌∙◌, ℕ, ◌+◌, ◌-◌, ◌<◌, ◌^◌, inl, inr, ◌⊎◌, Bool, true, false, cond, List, ◌∷◌, ◌++◌, length, Option, Some, None, refl, sym, ap, subst, append_assoc, arith}
 use Rattle.std.proofs.lemmas.List.{length-append}
 use Rattle.byteorder.specs.Endian.{big_bytes}
 use Rattle.byteorder.specs.Numbers.{length-bytes_high_first}
 use Rattle.field_codec.specs.Spelling.{IsBytes, blob_text}
 use Rattle.field_codec.specs.Reading.{◌>>=◌, number_at, blob_at}
-use Rattle.field_codec.proofs.Tools.{bind_some, bind_is, found, some_is, Takes, Takes-then}
-use Rattle.field_codec.proofs.Fields.{number_takes, number_again}
-use Rattle.field_codec.proofs.Fronts.{blob_takes, blob_again, length-blob_text}
+use Rattle.std.proofs.lemmas.Option.{same_Some}
+use Rattle.field_codec.proofs.Tools.{found}
+use Rattle.field_codec.proofs.Fronts.{blob_spelled, length-blob_text}
+use Rattle.field_codec.proofs.Spells.{Spells, number, field, restated, branch, made_of, apart}
+use Rattle.blob_id.specs.declared.blob.Blob.{Blob}
+use Rattle.blob_id.specs.Blob.{IsBlob}
 use Rattle.msg_format.specs.declared.record.Record.{Record}
 use Rattle.msg_format.specs.declared.record.Record.TheVariants.{Put, Delete}
 use Rattle.msg_format.specs.declared.record.Start.{Start}
 use Rattle.msg_format.specs.Records.{lsn_of, id_of, is_gone, kind_of, content_text, record_text, record_size, IsContent, IsRecord, BeginsWith}
 use Rattle.msg_format.specs.Reading.{start_at, put_at, delete_at, content_at, record_at}
-use Rattle.msg_format.proofs.Starts.{start_text, IsStart, kind_byte, start_takes, start_again, length-start_text}
+use Rattle.msg_format.proofs.Starts.{start, start_text, IsStart, kind_byte, start_spelled, length-start_text}
 
 -- ---- a record as its start and its content
 
@@ -38,70 +41,35 @@ record_text-parts entry = parts (kind_of entry) (kind_byte (is_gone entry)) (big
 
 -- ---- contents
 
--- the content behind a start makes a record of that start
-pub record TakesContent (start : Start) (bytes : List ℕ) (entry : Record) (rest : List ℕ) : Type 0 where
-  pub taken : Takes bytes (content_text entry) rest
-  pub content : IsContent entry
-  pub start_is : start_of entry ≡ start
-
-put_takes : (lsn : ℕ) (id bytes : List ℕ) (entry : Record) (rest : List ℕ) → IsBytes bytes → put_at lsn id bytes ≡ Some (entry, rest) → TakesContent (record { gone = false; lsn = lsn; id = id }) bytes entry rest
-unfolding put_at
-put_takes lsn id bytes entry rest fits e =
-    let b = bind_some (blob_at bytes) (λ blob. found (Put lsn id blob.0, blob.1)) (entry, rest) e in
-    let t = blob_takes bytes b.0.0 b.0.1 fits b.1 in
-    let made : Record × List ℕ = (Put lsn id b.0.0, b.0.1) in
-    let start : Start = record { gone = false; lsn = lsn; id = id } in
-    subst (λ (p : Record × List ℕ). TakesContent start bytes p.0 p.1) (some_is made (entry, rest) b.2) (record { taken = t.0; content = t.1; start_is = refl })
-
-delete_takes : (lsn : ℕ) (id bytes : List ℕ) (entry : Record) (rest : List ℕ) → IsBytes bytes → delete_at lsn id bytes ≡ Some (entry, rest) → TakesContent (record { gone = true; lsn = lsn; id = id }) bytes entry rest
-unfolding delete_at
-delete_takes lsn id bytes entry rest fits e =
-    let b = bind_some (number_at 8 bytes) (λ created. found (Delete lsn id created.0, created.1)) (entry, rest) e in
-    let t = number_takes 8 bytes b.0.0 b.0.1 fits b.1 in
-    let made : Record × List ℕ = (Delete lsn id b.0.0, b.0.1) in
-    let start : Start = record { gone = true; lsn = lsn; id = id } in
-    subst (λ (p : Record × List ℕ). TakesContent start bytes p.0 p.1) (some_is made (entry, rest) b.2) (record { taken = t.0; content = t.1; start_is = refl })
-
-content_takes : (gone : Bool) (lsn : ℕ) (id bytes : List ℕ) (entry : Record) (rest : List ℕ) → IsBytes bytes → cond gone (delete_at lsn id bytes) (put_at lsn id bytes) ≡ Some (entry, rest) → TakesContent (record { gone = gone; lsn = lsn; id = id }) bytes entry rest
-content_takes true lsn id bytes entry rest fits e = delete_takes lsn id bytes entry rest fits e
-content_takes false lsn id bytes entry rest fits e = put_takes lsn id bytes entry rest fits e
-
-content_again : (entry : Record) (rest : List ℕ) → IsContent entry → content_at (start_of entry) (content_text entry ++ rest) ≡ Some (entry, rest)
+content_spelled : (s : Start) → Spells content_text (content_at s) (λ e. IsContent e × (start_of e ≡ s))
 unfolding put_at delete_at
-content_again (Put lsn id blob) rest is = bind_is (blob_at (blob_text blob ++ rest)) (λ b. found (Put lsn id b.0, b.1)) (blob, rest) (blob_again blob rest is)
-content_again (Delete lsn id created) rest is = bind_is (number_at 8 (big_bytes 8 created ++ rest)) (λ c. found (Delete lsn id c.0, c.1)) (created, rest) (number_again 8 created rest is)
+content_spelled s = restated (λ e. refl) there back (branch s.gone (made_of content_text (Delete s.lsn s.id) (λ a. refl) (number 8)) (made_of content_text (Put s.lsn s.id) (λ a. refl) blob_spelled))
+  where
+    there : (e : Record) → ((s.gone ≡ true) × ((a : ℕ) × (a < 256 ^ 8) × (Delete s.lsn s.id a ≡ e))) ⊎ ((s.gone ≡ false) × ((a : Blob) × IsBlob a × (Put s.lsn s.id a ≡ e))) → IsContent e × (start_of e ≡ s)
+    there e = elim [
+      | inl h ↦ (subst IsContent h.1.2 h.1.1, ap start_of (sym h.1.2) ∙ ap (λ (g : Bool). start g s.lsn s.id) (sym h.0))
+      | inr h ↦ (subst IsContent h.1.2 h.1.1, ap start_of (sym h.1.2) ∙ ap (λ (g : Bool). start g s.lsn s.id) (sym h.0))
+    ]
+    back : (e : Record) → IsContent e × (start_of e ≡ s) → ((s.gone ≡ true) × ((a : ℕ) × (a < 256 ^ 8) × (Delete s.lsn s.id a ≡ e))) ⊎ ((s.gone ≡ false) × ((a : Blob) × IsBlob a × (Put s.lsn s.id a ≡ e)))
+    back (Put lsn id blob) h = inr (ap (λ (s : Start). s.gone) (sym h.1), (blob, h.0, ap (λ (s : Start). Put s.lsn s.id blob) (sym h.1)))
+    back (Delete lsn id created) h = inl (ap (λ (s : Start). s.gone) (sym h.1), (created, h.0, ap (λ (s : Start). Delete s.lsn s.id created) (sym h.1)))
 
 -- ---- records
 
-record_is : (bytes : List ℕ) → record_at bytes ≡ (start_at bytes >>= λ start. content_at start.0 start.1)
+pub record_spelled : Spells record_text record_at IsRecord
 unfolding record_at
-record_is bytes = refl
+record_spelled = restated (λ e. sym (record_text-parts e)) (λ e is. record_fits e is.0 is.1.0) (λ e is. (start_fits e is, (is.content, refl)))
+    (field start_of start_spelled content_spelled (λ s e is. is.1))
 
 pub record_takes : (bytes : List ℕ) (entry : Record) (rest : List ℕ) → IsBytes bytes → record_at bytes ≡ Some (entry, rest) → (bytes ≡ record_text entry ++ rest) × IsRecord entry
-record_takes bytes entry rest fits e =
-    let a = bind_some (start_at bytes) (λ start. content_at start.0 start.1) (entry, rest) (sym (record_is bytes) ∙ e) in
-    let t = start_takes bytes a.0.0 a.0.1 fits a.1 in
-    let c = content_takes (a.0.0).gone (a.0.0).lsn (a.0.0).id a.0.1 entry rest t.0.rest_fits a.2 in
-    let start : IsStart (start_of entry) = subst IsStart (sym c.start_is) t.1 in
-    let taken : Takes bytes (start_text a.0.0 ++ content_text entry) rest = Takes-then bytes (start_text a.0.0) a.0.1 (content_text entry) rest t.0 c.taken in
-    let text : start_text a.0.0 ++ content_text entry ≡ record_text entry = ap (λ (s : Start). start_text s ++ content_text entry) (sym c.start_is) ∙ sym (record_text-parts entry) in
-    (taken.parts ∙ ap (λ (x : List ℕ). x ++ rest) text, record_fits entry start c.content)
+record_takes bytes entry rest fits e = let t = record_spelled.takes bytes entry rest fits e in (t.0.parts, t.1)
 
 pub record_again : (entry : Record) (rest : List ℕ) → IsRecord entry → record_at (record_text entry ++ rest) ≡ Some (entry, rest)
-record_again entry rest is =
-    let start = start_of entry in
-    let text = content_text entry in
-    let split : record_text entry ++ rest ≡ start_text start ++ (text ++ rest) = ap (λ (x : List ℕ). x ++ rest) (record_text-parts entry) ∙ append_assoc (start_text start) text rest in
-    ap record_at split ∙ record_is (start_text start ++ (text ++ rest))
-    ∙ bind_is (start_at (start_text start ++ (text ++ rest))) (λ s. content_at s.0 s.1) (start, text ++ rest) (start_again start (text ++ rest) (start_fits entry is))
-    ∙ content_again entry rest is.content
+record_again = record_spelled.again
 
 -- no spelling begins another one
 pub records_apart : (a b : Record) (x y : List ℕ) → IsRecord a → IsRecord b → record_text a ++ x ≡ record_text b ++ y → (a ≡ b) × (x ≡ y)
-records_apart a b x y ha hb e =
-    let same : found (a, x) ≡ found (b, y) = sym (record_again a x ha) ∙ ap record_at e ∙ record_again b y hb in
-    let pair = some_is (a, x) (b, y) same in
-    (ap (λ (p : Record × List ℕ). p.0) pair, ap (λ (p : Record × List ℕ). p.1) pair)
+records_apart = apart record_spelled
 
 content_size : (entry : Record) → 30 + length (content_text entry) ≡ record_size entry
 content_size (Put lsn id blob) = ap (λ (n : ℕ). 30 + n) (length-blob_text blob)
@@ -137,7 +105,7 @@ answer entry size = Some (entry, size)
 pub same_read : (bytes : List ℕ) (read entry : Record) (rest : List ℕ) (n : ℕ) → BeginsWith bytes entry → record_at bytes ≡ Some (read, rest) → n ≡ record_size read → answer read n ≡ answer entry (record_size entry)
 same_read bytes read entry rest n begins e size =
     let same : found (read, rest) ≡ found (entry, begins.rest) = sym e ∙ only_read bytes entry begins in
-    let is : read ≡ entry = ap (λ (p : Record × List ℕ). p.0) (some_is (read, rest) (entry, begins.rest) same) in
+    let is : read ≡ entry = ap (λ (p : Record × List ℕ). p.0) (same_Some (read, rest) (entry, begins.rest) same) in
     ap (answer read) (size ∙ ap record_size is) ∙ ap (λ (r : Record). answer r (record_size entry)) is
 
 -- where nothing was read no record stands in front

@@ -7,8 +7,10 @@ use Rattle.byteorder.specs.Numbers.{length-bytes_high_first}
 use Rattle.blob_id.specs.Id.{IsId}
 use Rattle.field_codec.specs.Spelling.{IsBytes}
 use Rattle.field_codec.specs.Reading.{◌>>=◌, where_true, number_at, id_at}
-use Rattle.field_codec.proofs.Tools.{bind_some, bind_is, where_some, found, some_is, chosen, Takes, Takes-then}
-use Rattle.field_codec.proofs.Fields.{number_takes, number_again, id_takes, id_again}
+use Rattle.std.proofs.lemmas.Option.{same_Some}
+use Rattle.blob_id.proofs.BoolLemmas.{cond_cases}
+use Rattle.field_codec.proofs.Tools.{found, Takes}
+use Rattle.field_codec.proofs.Spells.{Spells, number, id, field, last, guard, restated, step}
 use Rattle.field_codec.proofs.Firsts.{ReadsFirst, first_then, first_where, first_made, number_first, id_first}
 use Rattle.msg_format.specs.declared.record.Start.{Start}
 use Rattle.msg_format.specs.Reading.{gone_of, start_at}
@@ -20,10 +22,10 @@ kind_byte true = 2
 kind_byte false = 1
 
 kind_is : (kind : ℕ) (gone : Bool) → gone_of kind ≡ Some gone → kind ≡ kind_byte gone
-kind_is kind gone e = elim (chosen (nat_eq kind 1) (found false) (cond (nat_eq kind 2) (found true) None) (Some gone) e) [
-  | inl p ↦ let g : false ≡ gone = some_is false gone p.1 in eqb-true kind 1 p.0 ∙ ap kind_byte g
-  | inr p ↦ elim (chosen (nat_eq kind 2) (found true) None (Some gone) p.1) [
-    | inl q ↦ let g : true ≡ gone = some_is true gone q.1 in eqb-true kind 2 q.0 ∙ ap kind_byte g
+kind_is kind gone e = elim (cond_cases (nat_eq kind 1) (found false) (cond (nat_eq kind 2) (found true) None) (Some gone) e) [
+  | inl p ↦ let g : false ≡ gone = same_Some false gone p.1 in eqb-true kind 1 p.0 ∙ ap kind_byte g
+  | inr p ↦ elim (cond_cases (nat_eq kind 2) (found true) None (Some gone) p.1) [
+    | inl q ↦ let g : true ≡ gone = same_Some true gone q.1 in eqb-true kind 2 q.0 ∙ ap kind_byte g
     | inr q ↦ absurd cc
   ]
 ]
@@ -64,53 +66,28 @@ behind_kind kind bytes = gone_of kind >>= behind_gone bytes
 abbrev behind_gate : ℕ → List ℕ → Option (Start × List ℕ)
 behind_gate gate bytes = where_true (nat_eq gate 79) (number_at 1 bytes) >>= λ kind. behind_kind kind.0 kind.1
 
-start_is : (bytes : List ℕ) → start_at bytes ≡ (number_at 1 bytes >>= λ gate. behind_gate gate.0 gate.1)
+abbrev pub start : Bool → ℕ → List ℕ → Start
+start gone lsn id = record { gone = gone; lsn = lsn; id = id }
+
+start_text-parts : (s : Start) → big_bytes 1 79 ++ (big_bytes 1 (kind_byte s.gone) ++ (big_bytes 8 s.lsn ++ s.id)) ≡ start_text s
+start_text-parts s = ap (λ (x : List ℕ). 79 ∷ (x ++ (big_bytes 8 s.lsn ++ s.id))) (one_byte s.gone)
+
+pub start_spelled : Spells start_text start_at IsStart
 unfolding start_at
-start_is bytes = refl
+start_spelled = restated start_text-parts
+    (λ s is. let h = is.1.1.2 in record { lsn = ltb-true _ _ h.1.0.0; id = h.1.0.1 })
+    (λ s is. (omega arith, ((refl, kind_small s.gone), (s.gone, gone_again s.gone, (omega (arith, is.lsn), ((lt-ltb _ _ is.lsn, is.id), refl))))))
+    (field (λ s. 79) (number 1) (λ g. field (λ s. kind_byte s.gone) (guard (nat_eq g 79) (number 1))
+      (λ k. step (gone_of k) (λ gone. field (λ s. s.lsn) (number 8) (λ l. last (λ s. s.id) (start gone l) (guard (nat_lt l (2 ^ 63)) id) (λ c. refl))
+        (λ l s is. ap (λ s. s.lsn) (sym is.1))))
+      (λ k s is. ap (λ s. kind_byte s.gone) (sym is.2.1.1) ∙ sym (kind_is k is.0 is.1)))
+      (λ g s is. sym (eqb-true _ _ is.0.0)))
 
 pub start_takes : (bytes : List ℕ) (start : Start) (rest : List ℕ) → IsBytes bytes → start_at bytes ≡ Some (start, rest) → Takes bytes (start_text start) rest × IsStart start
-start_takes bytes start rest fits e =
-    let a = bind_some (number_at 1 bytes) (λ gate. behind_gate gate.0 gate.1) (start, rest) (sym (start_is bytes) ∙ e) in
-    let b = bind_some (where_true (nat_eq a.0.0 79) (number_at 1 a.0.1)) (λ kind. behind_kind kind.0 kind.1) (start, rest) a.2 in
-    let c = bind_some (gone_of b.0.0) (behind_gone b.0.1) (start, rest) b.2 in
-    let d = bind_some (number_at 8 b.0.1) (λ lsn. behind_lsn c.0 lsn.0 lsn.1) (start, rest) c.2 in
-    let f = bind_some (where_true (nat_lt d.0.0 (2 ^ 63)) (id_at d.0.1)) (λ id. start_made c.0 d.0.0 id.0 id.1) (start, rest) d.2 in
-    let open_gate = where_some (nat_eq a.0.0 79) (number_at 1 a.0.1) b.0 b.1 in
-    let small = where_some (nat_lt d.0.0 (2 ^ 63)) (id_at d.0.1) f.0 f.1 in
-    let gate : a.0.0 ≡ 79 = eqb-true _ _ open_gate.0 in
-    let kind : b.0.0 ≡ kind_byte c.0 = kind_is b.0.0 c.0 c.1 in
-    let below : d.0.0 < 2 ^ 63 = ltb-true _ _ small.0 in
-    let t0 = number_takes 1 bytes a.0.0 a.0.1 fits a.1 in
-    let t1 = number_takes 1 a.0.1 b.0.0 b.0.1 t0.0.rest_fits open_gate.1 in
-    let t2 = number_takes 8 b.0.1 d.0.0 d.0.1 t1.0.rest_fits d.1 in
-    let t3 = id_takes d.0.1 f.0.0 f.0.1 t2.0.rest_fits small.1 in
-    let first : Takes bytes (79 ∷ []) a.0.1 = subst (λ (n : ℕ). Takes bytes (big_bytes 1 n) a.0.1) gate t0.0 in
-    let second : Takes a.0.1 (kind_byte c.0 ∷ []) b.0.1 = subst (λ (x : List ℕ). Takes a.0.1 x b.0.1) (ap (big_bytes 1) kind ∙ one_byte c.0) t1.0 in
-    let e23 = Takes-then b.0.1 (big_bytes 8 d.0.0) d.0.1 f.0.0 f.0.1 t2.0 t3.0 in
-    let e13 = Takes-then a.0.1 (kind_byte c.0 ∷ []) b.0.1 (big_bytes 8 d.0.0 ++ f.0.0) f.0.1 second e23 in
-    let e03 = Takes-then bytes (79 ∷ []) a.0.1 (kind_byte c.0 ∷ (big_bytes 8 d.0.0 ++ f.0.0)) f.0.1 first e13 in
-    let made : Start × List ℕ = (record { gone = c.0; lsn = d.0.0; id = f.0.0 }, f.0.1) in
-    subst (λ (p : Start × List ℕ). Takes bytes (start_text p.0) p.1 × IsStart p.0) (some_is made (start, rest) f.2)
-    (e03, record { lsn = below; id = t3.1 })
-
-where_is : {A : Type 0} (test : Bool) (o : Option A) → test ≡ true → where_true test o ≡ o
-where_is test o e = rw e refl
+start_takes = start_spelled.takes
 
 pub start_again : (start : Start) (rest : List ℕ) → IsStart start → start_at (start_text start ++ rest) ≡ Some (start, rest)
-start_again start rest is =
-    let lsn = big_bytes 8 start.lsn in
-    let kind = kind_byte start.gone in
-    let joined : start_text start ++ rest ≡ big_bytes 1 79 ++ (big_bytes 1 kind ++ (lsn ++ (start.id ++ rest))) =
-    ap (λ (x : List ℕ). 79 ∷ kind ∷ x) (append_assoc lsn start.id rest) ∙ ap (λ (x : List ℕ). 79 ∷ (x ++ (lsn ++ (start.id ++ rest)))) (sym (one_byte start.gone)) in
-    let below : nat_lt start.lsn (2 ^ 63) ≡ true = lt-ltb start.lsn (2 ^ 63) is.lsn in
-    let fits : start.lsn < 256 ^ 8 = omega (arith, is.lsn) in
-    let rest2 = lsn ++ (start.id ++ rest) in
-    ap start_at joined ∙ start_is (big_bytes 1 79 ++ (big_bytes 1 kind ++ rest2))
-    ∙ bind_is (number_at 1 (big_bytes 1 79 ++ (big_bytes 1 kind ++ rest2))) (λ gate. behind_gate gate.0 gate.1) (79, big_bytes 1 kind ++ rest2) (number_again 1 79 (big_bytes 1 kind ++ rest2) (omega arith))
-    ∙ bind_is (number_at 1 (big_bytes 1 kind ++ rest2)) (λ k. behind_kind k.0 k.1) (kind, rest2) (number_again 1 kind rest2 (kind_small start.gone))
-    ∙ bind_is (gone_of kind) (behind_gone rest2) start.gone (gone_again start.gone)
-    ∙ bind_is (number_at 8 rest2) (λ l. behind_lsn start.gone l.0 l.1) (start.lsn, start.id ++ rest) (number_again 8 start.lsn (start.id ++ rest) fits)
-    ∙ bind_is (where_true (nat_lt start.lsn (2 ^ 63)) (id_at (start.id ++ rest))) (λ id. start_made start.gone start.lsn id.0 id.1) (start.id, rest) (where_is (nat_lt start.lsn (2 ^ 63)) _ below ∙ id_again start.id rest is.id)
+start_again = start_spelled.again
 
 pub length-start_text : (start : Start) → IsStart start → length (start_text start) ≡ 30
 length-start_text start is = omega (arith, length-append (big_bytes 8 start.lsn) start.id, length-bytes_high_first 8 start.lsn, is.id.size)

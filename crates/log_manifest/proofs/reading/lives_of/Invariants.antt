@@ -1,6 +1,6 @@
 use Rattle.std.proofs.Common.{◌≡◌, ◌-◌}
 use Rattle.log_manifest.specs.Reading.{lives_at}
-use Rattle.log_manifest.proofs.Lives.{behind}
+use Rattle.field_codec.proofs.CountedLists.{behind}
 use Rattle.log_manifest.proofs.reading.lives_of.Given as goal
 
 abbrev pub invariant-loop : goal.invariant-loop
