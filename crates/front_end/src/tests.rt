@@ -88,7 +88,7 @@ fn is_begun_and(bytes: &[u8], rest: &[u8]) -> bool {
 
 /// Scripts that begin with a put, each with its words, the moves that come before those of the plain schedule, and what is written
 /// behind the put's first lines. Each has the status 0.
-const SCHEDULES: [(&[&str], &[Move], &[u8], &[u8]); 16] = [
+const SCHEDULES: [(&[&str], &[Move], &[u8], &[u8]); 17] = [
     // The request to node 1 is lost, and two replicas are enough.
     (
         &["run", "--partitions", "1"],
@@ -232,6 +232,13 @@ const SCHEDULES: [(&[&str], &[Move], &[u8], &[u8]); 16] = [
         b"put a hex 6161\nwait\nrestart 001\nstop 00000000000000000001\n",
         b"a ok 0100000000000000000040008000000000000000\nrestart 1 already\nstop 1 ok\n",
     ),
+    // Ids that nothing was put under, of a chunk, and of a partition that isn't there.
+    (
+        &["run", "--nodes=1"],
+        &[],
+        b"put a hex 6161\nwait\nget b 0100000000000000000040008000000000000009\nwait\nget c 0102000000000000000040008000000000000009\nwait\nget d 0100000900000000000040008000000000000009\nwait\n",
+        b"a ok 0100000000000000000040008000000000000000\nb begun\nb notfound\nc begun\nc notwhole\nd begun\nd nopartition\n",
+    ),
     // Nothing behind the end line is read.
     (
         &["run", "--nodes=1"],
@@ -254,7 +261,7 @@ fn schedules_have_their_transcripts(rt: HostRuntime) -> Result<(), Fail> {
 
 #[test]
 fn words_outside_the_grammar_are_told(rt: HostRuntime) -> Result<(), Fail> {
-    let table: [&[&str]; 20] = [
+    let table: [&[&str]; 21] = [
         &[],
         &["load"],
         &["run", "run"],
@@ -262,6 +269,7 @@ fn words_outside_the_grammar_are_told(rt: HostRuntime) -> Result<(), Fail> {
         &["run", "--Nodes", "1"],
         &["run", "--nodes"],
         &["run", "--nodes="],
+        &["run", "--nodes", "0"],
         &["run", "--nodes", "10"],
         &["run", "--nodes", "-1"],
         &["run", "--nodes", "000000000000000000001"],

@@ -1,8 +1,14 @@
+//! Tallies of gets that need two of three replicas.
+
+ghost use Rattle.std.specs.Prelude.{◌≡◌};
+
 use super::*;
 use std::test::Fail;
 
 /// The tally of a get that needs two of three replicas.
-fn two_of_three() -> Tally {
+fn two_of_three() -> Tally
+    ensures { result.replicas ≡ 3 }
+{
     Tally::new(TallyKind::Get, 3, 2)
 }
 

@@ -21,6 +21,24 @@
 //! Chunks have 65,536 bytes. A segment has at least 4,096 bytes, and at least 1,200 more than a chunk.
 //!
 //! Any other word makes the words faulty, also `--`, `--help` and `--version`. A default out of range does too.
+//!
+//! # Values
+//!
+//! `Settings` are the shape of a cluster with the numbers of its logs, the number that ids follow from, a seed and a folder.
+//!
+//! # Proved
+//!
+//! - `read_words` answers settings exactly where the words spell them (`found`, `only`), and `Usage` only where they spell none
+//!   (`usage`). The shape lies within its limits (`shape`).
+//! - Words spell the settings of one run at most (`words_laws`).
+//!
+//! # Tested
+//!
+//! Seven lists of words with all their numbers and folders; `front_end` runs twenty-one lists that are outside of the grammar.
+//!
+//! # Not proved
+//!
+//! That `Memory` is answered only where an allocation is refused. The cost, which is linear in the words' bytes.
 #![tactic(auto)]
 
 mod fault;
