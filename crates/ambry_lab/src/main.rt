@@ -1,22 +1,23 @@
 //! Runs a script over nodes in one process, whose disks are files.
 //!
-//! The script comes from standard input, the transcript goes to standard output, and the exit status tells how the run ended. The files
-//! lie in the folder that the words name, below the current one, and stay for later runs, which take other `--ids`. The words, the lines
-//! of a script and the statuses are those of `front_end::run_lab`.
+//! The script comes from standard input, the transcript goes to standard output, and the exit status tells how the run ended.
+//! The files lie in the folder that the words name, below the current one, and stay for later runs, which take other `--ids`.
+//! The words, the lines of a script and the statuses are those of `front_end::run_lab`.
 //!
 //! # What it is made of
 //!
-//! `main` makes the real objects (standard input and output, files as disks, the seeded schedule, counted ids) and hands them to
-//! `run_lab`, which does the rest.
+//! `main` makes the real objects (standard input and output, files as disks, the seeded schedule, counted ids) and hands them
+//! to `run_lab`, which does the rest.
 //!
 //! # Proved
 //!
-//! That it is safe and returns, and what `run_lab` promises of objects that tell nothing: over files nothing is said of what the disks hold.
+//! That it is safe and returns, and what `run_lab` promises of objects that tell nothing: over files nothing is said of what
+//! the disks hold.
 //!
 //! # Tested
 //!
-//! Its stored run is a put and a get. `tests/repository.sh` runs the examples with their transcripts, and one script under a hundred
-//! schedules; `tests/folder.sh` runs the program over real files, a killed run among them.
+//! Its stored run is a put and a get. `tests/repository.sh` runs the examples with their transcripts, and one script under a
+//! hundred schedules; `tests/folder.sh` runs the program over real files, a killed run among them.
 //!
 //! # Trusted
 //!

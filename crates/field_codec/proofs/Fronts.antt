@@ -43,8 +43,8 @@ front_spelled = restated (λ f. refl)
     (λ f is. record { created = is.0; type_length = is.1.0; ctype = is.1.1.0.0; meta_length = is.1.1.0.1; body_length = leb-true _ _ is.1.1.1.1 })
     (λ f is. (is.created, (is.type_length, ((is.ctype, is.meta_length), (omega (arith, is.body_length), le-leb _ _ is.body_length, refl)))))
     (field (λ f. f.created) (number 8) (λ a. field (λ f. f.ctype) (sized_of 1 64 (omega arith)) (λ t. field (λ f. f.meta) (guard (is_type t) (sized_of 2 1024 (omega arith)))
-      (λ m. last_where (λ len. nat_le len 4194304) (λ f. f.body_len) (front a t m) (number 4) (λ c. refl))
-      (λ m f is. ap (λ f. f.meta) (sym is.2))) (λ t f is. ap (λ f. f.ctype) (sym is.1.2))) (λ a f is. ap (λ f. f.created) (sym is.1.1.2)))
+    (λ m. last_where (λ len. nat_le len 4194304) (λ f. f.body_len) (front a t m) (number 4) (λ c. refl))
+    (λ m f is. ap (λ f. f.meta) (sym is.2))) (λ t f is. ap (λ f. f.ctype) (sym is.1.2))) (λ a f is. ap (λ f. f.created) (sym is.1.1.2)))
 
 -- ---- blobs
 
@@ -87,7 +87,7 @@ pub blob_spelled : Spells blob_text blob_at IsBlob
 unfolding blob_at
 blob_spelled = restated (λ b. sym (blob_text-parts b)) (λ b is. subst IsBlob is.1.1 (front_is_blob (front_of b) b.body is.0 is.1.0)) (λ b is. (blob_is_front b is, (refl, refl)))
     (field front_of front_spelled (λ f. last (λ b. b.body) (blob_of f) (piece f.body_len) (λ c. refl))
-      (λ f b is. ap front_of (sym is.1) ∙ ap (λ (n : ℕ). front f.created f.ctype f.meta n) is.0))
+    (λ f b is. ap front_of (sym is.1) ∙ ap (λ (n : ℕ). front f.created f.ctype f.meta n) is.0))
 
 length_sized : (n : ℕ) (text : List ℕ) → length (sized n text) ≡ n + length text
 length_sized n text = length-append (big_bytes n (length text)) text ∙ ap (λ (k : ℕ). k + length text) (length-bytes_high_first n (length text))

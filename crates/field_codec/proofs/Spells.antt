@@ -34,8 +34,8 @@ id = record { takes = id_takes; again = id_again }
 pub done : {V : Type 0} (value : V) → Spells (λ v. []) (λ bytes. Some (value, bytes)) (λ v. value ≡ v)
 done value = record {
   takes = λ bytes v rest fits e.
-    let pair : _ × List ℕ = (value, bytes) in
-    subst (λ q. Takes bytes [] q.1 × (value ≡ q.0)) (same_Some pair (v, rest) e) (record { parts = refl; rest_fits = fits }, refl);
+      let pair : _ × List ℕ = (value, bytes) in
+      subst (λ q. Takes bytes [] q.1 × (value ≡ q.0)) (same_Some pair (v, rest) e) (record { parts = refl; rest_fits = fits }, refl);
   again = λ v rest is. ap (λ x. found (x, rest)) is;
 }
 
@@ -54,15 +54,15 @@ pub field : {A V : Type 0} {tA : A → List ℕ} {rA : List ℕ → Option (A ×
     → Spells (λ v. tA (get v) ++ t v) (λ bytes. rA bytes >>= λ a. r a.0 a.1) (λ v. PA (get v) × P (get v) v)
 field {tA = tA} {rA = rA} {PA = PA} {t = t} {r = r} {P = P} get f g same = record {
   takes = λ bytes v rest fits e.
-    let a = bind_some (rA bytes) (λ a. r a.0 a.1) (v, rest) e in
-    let u = f.takes bytes a.0.0 a.0.1 fits a.1 in
-    let w = (g a.0.0).takes a.0.1 v rest u.0.rest_fits a.2 in
-    let is = sym (same a.0.0 v w.1) in
-    (Takes-then bytes (tA (get v)) a.0.1 (t v) rest (subst (λ x. Takes bytes (tA x) a.0.1) is u.0) w.0, (subst PA is u.1, subst (λ x. P x v) is w.1));
+      let a = bind_some (rA bytes) (λ a. r a.0 a.1) (v, rest) e in
+      let u = f.takes bytes a.0.0 a.0.1 fits a.1 in
+      let w = (g a.0.0).takes a.0.1 v rest u.0.rest_fits a.2 in
+      let is = sym (same a.0.0 v w.1) in
+      (Takes-then bytes (tA (get v)) a.0.1 (t v) rest (subst (λ x. Takes bytes (tA x) a.0.1) is u.0) w.0, (subst PA is u.1, subst (λ x. P x v) is w.1));
   again = λ v rest is.
-    ap (λ bytes. rA bytes >>= λ a. r a.0 a.1) (append_assoc (tA (get v)) (t v) rest)
-    ∙ bind_is (rA (tA (get v) ++ (t v ++ rest))) (λ a. r a.0 a.1) (get v, t v ++ rest) (f.again (get v) (t v ++ rest) is.0)
-    ∙ (g (get v)).again v rest is.1;
+      ap (λ bytes. rA bytes >>= λ a. r a.0 a.1) (append_assoc (tA (get v)) (t v) rest)
+      ∙ bind_is (rA (tA (get v) ++ (t v ++ rest))) (λ a. r a.0 a.1) (get v, t v ++ rest) (f.again (get v) (t v ++ rest) is.0)
+      ∙ (g (get v)).again v rest is.1;
 }
 
 -- the values that are made of others which meet a test, among all of their type
@@ -70,16 +70,16 @@ pub made_where : {A V : Type 0} {tA : A → List ℕ} {rA : List ℕ → Option 
     → Spells t (λ bytes. rA bytes >>= λ a. where_true (test a.0) (Some (make a.0, a.1))) (λ v. (a : A) × PA a × (test a ≡ true) × (make a ≡ v))
 made_where {tA = tA} {rA = rA} {PA = PA} test t make same f = record {
   takes = λ bytes v rest fits e.
-    let a = bind_some (rA bytes) (λ a. where_true (test a.0) (Some (make a.0, a.1))) (v, rest) e in
-    let pair : _ × List ℕ = (make a.0.0, a.0.1) in
-    let w = where_some (test a.0.0) (found pair) (v, rest) a.2 in
-    let u = f.takes bytes a.0.0 a.0.1 fits a.1 in
-    let is = same_Some pair (v, rest) w.1 in
-    (subst (λ q. Takes bytes (t q.0) q.1) is (subst (λ x. Takes bytes x a.0.1) (sym (same a.0.0)) u.0), (a.0.0, u.1, w.0, ap (λ q. q.0) is));
+      let a = bind_some (rA bytes) (λ a. where_true (test a.0) (Some (make a.0, a.1))) (v, rest) e in
+      let pair : _ × List ℕ = (make a.0.0, a.0.1) in
+      let w = where_some (test a.0.0) (found pair) (v, rest) a.2 in
+      let u = f.takes bytes a.0.0 a.0.1 fits a.1 in
+      let is = same_Some pair (v, rest) w.1 in
+      (subst (λ q. Takes bytes (t q.0) q.1) is (subst (λ x. Takes bytes x a.0.1) (sym (same a.0.0)) u.0), (a.0.0, u.1, w.0, ap (λ q. q.0) is));
   again = λ v rest is.
-    ap (λ x. rA (x ++ rest) >>= λ a. where_true (test a.0) (Some (make a.0, a.1))) (ap t (sym is.3) ∙ same is.0)
-    ∙ bind_is (rA (tA is.0 ++ rest)) (λ a. where_true (test a.0) (Some (make a.0, a.1))) (is.0, rest) (f.again is.0 rest is.1)
-    ∙ ap (λ (b : Bool). where_true b (found (make is.0, rest))) is.2 ∙ ap (λ x. found (x, rest)) is.3;
+      ap (λ x. rA (x ++ rest) >>= λ a. where_true (test a.0) (Some (make a.0, a.1))) (ap t (sym is.3) ∙ same is.0)
+      ∙ bind_is (rA (tA is.0 ++ rest)) (λ a. where_true (test a.0) (Some (make a.0, a.1))) (is.0, rest) (f.again is.0 rest is.1)
+      ∙ ap (λ (b : Bool). where_true b (found (make is.0, rest))) is.2 ∙ ap (λ x. found (x, rest)) is.3;
 }
 
 -- those of one variant, say
@@ -112,9 +112,9 @@ guard {t = t} {r = r} test f = record {
 pub step : {B V : Type 0} {t : V → List ℕ} {r : B → List ℕ → Option (V × List ℕ)} {P : B → V → Type 0} (o : Option B) → ((b : B) → Spells t (r b) (P b)) → Spells t (λ bytes. o >>= λ b. r b bytes) (λ v. (b : B) × (o ≡ Some b) × P b v)
 step {r = r} o each = record {
   takes = λ bytes v rest fits e.
-    let a = bind_some o (λ b. r b bytes) (v, rest) e in
-    let u = (each a.0).takes bytes v rest fits a.2 in
-    (u.0, (a.0, a.1, u.1));
+      let a = bind_some o (λ b. r b bytes) (v, rest) e in
+      let u = (each a.0).takes bytes v rest fits a.2 in
+      (u.0, (a.0, a.1, u.1));
   again = λ v rest is. bind_is o (λ b. r b _) is.0 is.1 ∙ (each is.0).again v rest is.2;
 }
 

@@ -1,5 +1,5 @@
-//! How far replication has come: the tokens that say which records of a replica's log a peer has seen, the pages of what it hasn't
-//! seen yet, and the tokens' bytes.
+//! How far replication has come: the tokens that say which records of a replica's log a peer has seen, the pages of what it
+//! hasn't seen yet, and the tokens' bytes.
 //!
 //! | Token | Bytes |
 //! |---|---|
@@ -10,7 +10,8 @@
 //!
 //! # Values
 //!
-//! `FindToken` is one of the two tokens. A `Page` is a list of entries, each an id and whether it is gone, and the token behind them.
+//! `FindToken` is one of the two tokens. A `Page` is a list of entries, each an id and whether it is gone, and the token behind
+//! them.
 //!
 //! # Public calls
 //!
@@ -18,8 +19,8 @@
 //!
 //! # Proved
 //!
-//! `read_token` gives exactly the token that the bytes begin with and its length, and `None` exactly where they begin with none;
-//! `write_token` writes its spelling; no spelling begins another one (`token_laws`).
+//! `read_token` gives exactly the token that the bytes begin with and its length, and `None` exactly where they begin with
+//! none; `write_token` writes its spelling; no spelling begins another one (`token_laws`).
 //!
 //! # Tested
 //!

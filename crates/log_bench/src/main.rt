@@ -1,7 +1,8 @@
 //! Appends records to the log of a new file in the current folder, so that its speed can be measured.
 //!
-//! `log_bench COUNT SIZE` puts COUNT records of SIZE bytes last, each a put of at least 45 bytes, and prints how many it put. A file that
-//! is there already is refused. The file is `n0p0`, a log of two segments of 16,777,216 bytes, and isn't removed. `bench/log.py` runs it.
+//! `log_bench COUNT SIZE` puts COUNT records of SIZE bytes last, each a put of at least 45 bytes, and prints how many it put. A
+//! file that is there already is refused. The file is `n0p0`, a log of two segments of 16,777,216 bytes, and isn't removed.
+//! `bench/log.py` runs it.
 //!
 //! # Proved
 //!

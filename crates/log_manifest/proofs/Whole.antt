@@ -29,7 +29,7 @@ settings_spelled : Spells settings_text settings_at IsSettings
 unfolding settings_at
 settings_spelled = restated (λ s. refl) (λ s is. record { segment = is.0; segments = is.1.0; index = is.1.1.0 }) (λ s is. (is.segment, (is.segments, (is.index, refl))))
     (field (λ s. s.segment) (number 4) (λ a. field (λ s. s.segments) (number 2) (λ b. last (λ s. s.index) (settings a b) (number 2) (λ c. refl))
-      (λ b s is. cc)) (λ a s is. cc))
+    (λ b s is. cc)) (λ a s is. cc))
 
 abbrev live : ℕ → ℕ → Live
 live segment generation = record { segment = segment; generation = generation }
@@ -61,9 +61,9 @@ unfolding numbers_at
 numbers_spelled = restated (λ n. refl) (λ n is. record { settings = is.1.0.1; next_generation = is.1.1.0; floor = is.1.1.1.0; count = is.1.1.1.1.0 })
     (λ n is. (omega arith, ((refl, is.settings), (is.next_generation, (is.floor, (is.count, refl))))))
     (field (λ n. 1) (number 1) (λ v. field (λ n. n.settings) (guard (nat_eq v 1) settings_spelled) (λ s. field (λ n. n.next_generation) (number 8)
-      (λ g. field (λ n. n.floor) (number 8) (λ f. last (λ n. n.count) (numbers s g f) (number 2) (λ c. refl))
-      (λ f n is. cc)) (λ g n is. cc))
-      (λ s n is. cc)) (λ v n is. sym (eqb-true _ _ is.0.0)))
+    (λ g. field (λ n. n.floor) (number 8) (λ f. last (λ n. n.count) (numbers s g f) (number 2) (λ c. refl))
+    (λ f n is. cc)) (λ g n is. cc))
+    (λ s n is. cc)) (λ v n is. sym (eqb-true _ _ is.0.0)))
 
 -- ---- all fields
 
@@ -84,7 +84,7 @@ fields_spelled : Spells manifest_text fields_at HasFields
 unfolding fields_at
 fields_spelled = restated manifest_text-parts (λ m is. record { numbers = is.0; widths = is.1.0.1 }) (λ m is. (is.numbers, ((refl, is.widths), refl)))
     (field numbers_of numbers_spelled (λ n. last (λ m. m.live) (manifest_of n) (times n.count live_spelled) (λ c. refl))
-      (λ n m is. ap numbers_of (sym is.1) ∙ ap (λ (k : ℕ). numbers n.settings n.next_generation n.floor k) is.0.0))
+    (λ n m is. ap numbers_of (sym is.1) ∙ ap (λ (k : ℕ). numbers n.settings n.next_generation n.floor k) is.0.0))
 
 -- ---- manifests
 

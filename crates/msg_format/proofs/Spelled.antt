@@ -50,6 +50,7 @@ content_spelled s = restated (λ e. refl) there back (branch s.gone (made_of con
       | inl h ↦ (subst IsContent h.1.2 h.1.1, ap start_of (sym h.1.2) ∙ ap (λ (g : Bool). start g s.lsn s.id) (sym h.0))
       | inr h ↦ (subst IsContent h.1.2 h.1.1, ap start_of (sym h.1.2) ∙ ap (λ (g : Bool). start g s.lsn s.id) (sym h.0))
     ]
+
     back : (e : Record) → IsContent e × (start_of e ≡ s) → ((s.gone ≡ true) × ((a : ℕ) × (a < 256 ^ 8) × (Delete s.lsn s.id a ≡ e))) ⊎ ((s.gone ≡ false) × ((a : Blob) × IsBlob a × (Put s.lsn s.id a ≡ e)))
     back (Put lsn id blob) h = inr (ap (λ (s : Start). s.gone) (sym h.1), (blob, h.0, ap (λ (s : Start). Put s.lsn s.id blob) (sym h.1)))
     back (Delete lsn id created) h = inl (ap (λ (s : Start). s.gone) (sym h.1), (created, h.0, ap (λ (s : Start). Delete s.lsn s.id created) (sym h.1)))

@@ -78,10 +78,10 @@ start_spelled = restated start_text-parts
     (λ s is. let h = is.1.1.2 in record { lsn = ltb-true _ _ h.1.0.0; id = h.1.0.1 })
     (λ s is. (omega arith, ((refl, kind_small s.gone), (s.gone, gone_again s.gone, (omega (arith, is.lsn), ((lt-ltb _ _ is.lsn, is.id), refl))))))
     (field (λ s. 79) (number 1) (λ g. field (λ s. kind_byte s.gone) (guard (nat_eq g 79) (number 1))
-      (λ k. step (gone_of k) (λ gone. field (λ s. s.lsn) (number 8) (λ l. last (λ s. s.id) (start gone l) (guard (nat_lt l (2 ^ 63)) id) (λ c. refl))
-        (λ l s is. ap (λ s. s.lsn) (sym is.1))))
-      (λ k s is. ap (λ s. kind_byte s.gone) (sym is.2.1.1) ∙ sym (kind_is k is.0 is.1)))
-      (λ g s is. sym (eqb-true _ _ is.0.0)))
+    (λ k. step (gone_of k) (λ gone. field (λ s. s.lsn) (number 8) (λ l. last (λ s. s.id) (start gone l) (guard (nat_lt l (2 ^ 63)) id) (λ c. refl))
+    (λ l s is. ap (λ s. s.lsn) (sym is.1))))
+    (λ k s is. ap (λ s. kind_byte s.gone) (sym is.2.1.1) ∙ sym (kind_is k is.0 is.1)))
+    (λ g s is. sym (eqb-true _ _ is.0.0)))
 
 pub start_takes : (bytes : List ℕ) (start : Start) (rest : List ℕ) → IsBytes bytes → start_at bytes ≡ Some (start, rest) → Takes bytes (start_text start) rest × IsStart start
 start_takes = start_spelled.takes
