@@ -3,7 +3,7 @@ use Rattle.std.proofs.Common.{◌≡◌, ◌∙◌, ℕ, ◌^◌, ◌<◌, ◌�
 use Rattle.std.proofs.lemmas.Bool.{true≢false}
 use Rattle.std.proofs.lemmas.List.{append-nil, nil_from_length}
 use Rattle.std.proofs.lemmas.Option.{same_Some}
-use Rattle.std.specs.Option.{IfSome}
+use Rattle.std.specs.Option.{IfSome, option_map}
 use Rattle.byteorder.specs.Endian.{big_bytes}
 use Rattle.blob_id.specs.Id.{IsId}
 use Rattle.field_codec.specs.Spelling.{IsBytes, sized}
@@ -48,6 +48,10 @@ restated {r = r} same there back f = record {
   again = λ v rest is. ap (λ x. r (x ++ rest)) (sym (same v)) ∙ f.again v rest (back v is);
 }
 
+-- the same read in another way
+pub reread : {V : Type 0} {t : V → List ℕ} {r s : List ℕ → Option (V × List ℕ)} {P : V → Type 0} → ((bytes : List ℕ) → s bytes ≡ r bytes) → Spells t r P → Spells t s P
+reread {t = t} same f = record { takes = λ bytes v rest fits e. f.takes bytes v rest fits (sym (same bytes) ∙ e); again = λ v rest is. same (t v ++ rest) ∙ f.again v rest is }
+
 -- a field, and the rest of the value behind it
 pub field : {A V : Type 0} {tA : A → List ℕ} {rA : List ℕ → Option (A × List ℕ)} {PA : A → Type 0} {t : V → List ℕ} {r : A → List ℕ → Option (V × List ℕ)} {P : A → V → Type 0} (get : V → A)
     → Spells tA rA PA → ((a : A) → Spells t (r a) (P a)) → ((a : A) (v : V) → P a v → get v ≡ a)
@@ -86,6 +90,37 @@ made_where {tA = tA} {rA = rA} {PA = PA} test t make same f = record {
 pub made_of : {A V : Type 0} {tA : A → List ℕ} {rA : List ℕ → Option (A × List ℕ)} {PA : A → Type 0} (t : V → List ℕ) (make : A → V) → ((a : A) → t (make a) ≡ tA a) → Spells tA rA PA
     → Spells t (λ bytes. rA bytes >>= λ a. Some (make a.0, a.1)) (λ v. (a : A) × PA a × (make a ≡ v))
 made_of t make same f = restated (λ v. refl) (λ v is. (is.0, is.1, is.3)) (λ v is. (is.0, is.1, refl, is.2)) (made_where (λ a. true) t make same f)
+
+-- a value of two parts, of which the first may say how the second is read
+pub made_of_two : {A B V : Type 0} {tA : A → List ℕ} {rA : List ℕ → Option (A × List ℕ)} {PA : A → Type 0} {tB : B → List ℕ} {rB : A → List ℕ → Option (B × List ℕ)} {PB : A → B → Type 0} (t : V → List ℕ) (make : A → B → V)
+    → ((a : A) (b : B) → t (make a b) ≡ tA a ++ tB b) → Spells tA rA PA → ((a : A) → Spells tB (rB a) (PB a))
+    → Spells t (λ bytes. rA bytes >>= λ a. rB a.0 a.1 >>= λ b. Some (make a.0 b.0, b.1)) (λ v. (a : A) × (b : B) × PA a × PB a b × (make a b ≡ v))
+made_of_two {V = V} {tA = tA} {rA = rA} {tB = tB} {rB = rB} t make same f g = record {
+  takes = λ bytes v rest fits e.
+    let a = bind_some (rA bytes) (λ a. rB a.0 a.1 >>= λ b. Some (make a.0 b.0, b.1)) (v, rest) e in
+    let b = bind_some (rB a.0.0 a.0.1) (λ b. Some (make a.0.0 b.0, b.1)) (v, rest) a.2 in
+    let u = f.takes bytes a.0.0 a.0.1 fits a.1 in
+    let w = (g a.0.0).takes a.0.1 b.0.0 b.0.1 u.0.rest_fits b.1 in
+    let pair : V × List ℕ = (make a.0.0 b.0.0, b.0.1) in
+    let is = same_Some pair (v, rest) b.2 in
+    let both = Takes-then bytes (tA a.0.0) a.0.1 (tB b.0.0) b.0.1 u.0 w.0 in
+    (subst (λ q. Takes bytes (t q.0) q.1) {x = pair} {y = (v, rest)} is (subst (λ x. Takes bytes x b.0.1) {x = tA a.0.0 ++ tB b.0.0} {y = t (make a.0.0 b.0.0)} (sym (same a.0.0 b.0.0)) both), (a.0.0, b.0.0, u.1, w.1, ap (λ q. q.0) {x = pair} {y = (v, rest)} is));
+  again = λ v rest is.
+    let text : t v ++ rest ≡ tA is.0 ++ (tB is.1 ++ rest) = ap (λ x. x ++ rest) (ap t (sym is.4) ∙ same is.0 is.1) ∙ append_assoc (tA is.0) (tB is.1) rest in
+    ap (λ x. rA x >>= λ a. rB a.0 a.1 >>= λ b. Some (make a.0 b.0, b.1)) text
+    ∙ bind_is (rA (tA is.0 ++ (tB is.1 ++ rest))) (λ a. rB a.0 a.1 >>= λ b. Some (make a.0 b.0, b.1)) (is.0, tB is.1 ++ rest) (f.again is.0 (tB is.1 ++ rest) is.2)
+    ∙ bind_is (rB is.0 (tB is.1 ++ rest)) (λ b. Some (make is.0 b.0, b.1)) (is.1, rest) ((g is.0).again is.1 rest is.3)
+    ∙ ap (λ x. found (x, rest)) is.4;
+}
+
+-- the same as made_of, written by option_map
+pub mapped : {A V : Type 0} {tA : A → List ℕ} {rA : List ℕ → Option (A × List ℕ)} {PA : A → Type 0} (t : V → List ℕ) (make : A → V) → ((a : A) → t (make a) ≡ tA a) → Spells tA rA PA
+    → Spells t (λ bytes. option_map {U = V × List ℕ} (λ (a : A × List ℕ). (make a.0, a.1)) (rA bytes)) (λ v. (a : A) × PA a × (make a ≡ v))
+mapped {A = A} {V = V} {rA = rA} t make same f = reread (λ bytes. map_is (rA bytes)) (made_of t make same f)
+  where
+    map_is : (o : Option (A × List ℕ)) → option_map {U = V × List ℕ} (λ (a : A × List ℕ). (make a.0, a.1)) o ≡ (o >>= λ a. Some (make a.0, a.1))
+    map_is (Some a) = refl
+    map_is None = refl
 
 -- the last field, where it meets a test
 pub last_where : {A V : Type 0} {tA : A → List ℕ} {rA : List ℕ → Option (A × List ℕ)} {PA : A → Type 0} (test : A → Bool) (get : V → A) (make : A → V) → Spells tA rA PA → ((a : A) → get (make a) ≡ a)

@@ -5,7 +5,9 @@ use Rattle.byteorder.specs.Endian.{big_bytes}
 use Rattle.byteorder.specs.Numbers.{length-bytes_high_first}
 use Rattle.field_codec.specs.Spelling.{IsBytes}
 use Rattle.field_codec.specs.Reading.{◌>>=◌, number_at}
-use Rattle.field_codec.proofs.Tools.{bind_some, bind_is, some_is, chosen}
+use Rattle.std.proofs.lemmas.Option.{same_Some}
+use Rattle.blob_id.proofs.BoolLemmas.{cond_cases}
+use Rattle.field_codec.proofs.Tools.{bind_some, bind_is}
 use Rattle.field_codec.proofs.Fields.{number_takes, number_again}
 use Rattle.find_token.specs.declared.token.FindToken.{FindToken}
 use Rattle.find_token.specs.declared.token.FindToken.TheVariants.{Start, Journal}
@@ -35,13 +37,13 @@ journal_begins bytes rest token size fits front e =
       rest = a.0.1;
       parts = front ∙ ap (λ (x : List ℕ). 1 ∷ x) t.0.parts;
     } in
-    subst (λ (p : FindToken × ℕ). BeginsWith bytes p.0 p.1) (some_is made (token, size) a.2) begins
+    subst (λ (p : FindToken × ℕ). BeginsWith bytes p.0 p.1) (same_Some made (token, size) a.2) begins
 
 start_begins : (bytes rest : List ℕ) (token : FindToken) (size : ℕ) → bytes ≡ 0 ∷ rest → start ≡ Some (token, size) → BeginsWith bytes token size
 start_begins bytes rest token size front e =
     let made : FindToken × ℕ = (Start, 1) in
     let begins : BeginsWith bytes Start 1 = record { fits = tt; size_is = refl; rest = rest; parts = front } in
-    subst (λ (p : FindToken × ℕ). BeginsWith bytes p.0 p.1) (some_is made (token, size) e) begins
+    subst (λ (p : FindToken × ℕ). BeginsWith bytes p.0 p.1) (same_Some made (token, size) e) begins
 
 -- what is read stands in front
 pub token_begins : (bytes : List ℕ) (token : FindToken) (size : ℕ) → IsBytes bytes → token_at bytes ≡ Some (token, size) → BeginsWith bytes token size
@@ -49,10 +51,10 @@ token_begins bytes token size fits e =
     let a = bind_some (number_at 1 bytes) (λ kind. token_of kind.0 kind.1) (token, size) (sym (token_is bytes) ∙ e) in
     let t = number_takes 1 bytes a.0.0 a.0.1 fits a.1 in
     let parts = t.0.parts in
-    let kinds = chosen (nat_eq a.0.0 0) start (cond (nat_eq a.0.0 1) (number_at 8 a.0.1 >>= journal_of) None) (Some (token, size)) a.2 in
+    let kinds = cond_cases (nat_eq a.0.0 0) start (cond (nat_eq a.0.0 1) (number_at 8 a.0.1 >>= journal_of) None) (Some (token, size)) a.2 in
     elim kinds [
       | inl p ↦ start_begins bytes a.0.1 token size (parts ∙ ap (λ (n : ℕ). big_bytes 1 n ++ a.0.1) (eqb-true _ _ p.0)) p.1
-      | inr p ↦ elim (chosen (nat_eq a.0.0 1) (number_at 8 a.0.1 >>= journal_of) None (Some (token, size)) p.1) [
+      | inr p ↦ elim (cond_cases (nat_eq a.0.0 1) (number_at 8 a.0.1 >>= journal_of) None (Some (token, size)) p.1) [
         | inl q ↦ journal_begins bytes a.0.1 token size t.0.rest_fits (parts ∙ ap (λ (n : ℕ). big_bytes 1 n ++ a.0.1) (eqb-true _ _ q.0)) q.1
         | inr q ↦ absurd cc
       ]
@@ -74,5 +76,5 @@ pub tokens_apart : (a b : FindToken) (x y : List ℕ) → IsToken a → IsToken 
 tokens_apart a b x y fits_a fits_b e =
     let one : FindToken × ℕ = (a, length (token_text a)) in
     let other : FindToken × ℕ = (b, length (token_text b)) in
-    let same : a ≡ b = ap (λ (p : FindToken × ℕ). p.0) (some_is one other (sym (token_again a x fits_a) ∙ ap token_at e ∙ token_again b y fits_b)) in
+    let same : a ≡ b = ap (λ (p : FindToken × ℕ). p.0) (same_Some one other (sym (token_again a x fits_a) ∙ ap token_at e ∙ token_again b y fits_b)) in
     (same, append_cancel_left (token_text a) x y (e ∙ ap (λ (t : FindToken). token_text t ++ y) (sym same)))
