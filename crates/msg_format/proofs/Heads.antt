@@ -16,10 +16,10 @@ use Rattle.msg_format.specs.declared.record.Record.{Record}
 use Rattle.msg_format.specs.declared.record.Record.TheVariants.{Put, Delete}
 use Rattle.msg_format.specs.declared.record.Head.{Head}
 use Rattle.msg_format.specs.declared.record.Start.{Start}
-use Rattle.msg_format.specs.Records.{content_text, record_text, record_size, head_of, IsContent, IsRecord, BeginsWith}
+use Rattle.msg_format.specs.Records.{content_text, lsn_of, id_of, is_gone, spelling_of, record_size, head_of, IsContent, IsRecord, Spells, BeginsWith}
 use Rattle.msg_format.specs.Reading.{start_at, put_size, put_head, content_head, head_at}
 use Rattle.msg_format.proofs.Starts.{start_text, IsStart, start_takes, start_again, start_first, length-start_text}
-use Rattle.msg_format.proofs.Spelled.{start_of, start_fits, record_fits, record_text-parts, length-record_text}
+use Rattle.msg_format.proofs.Spelled.{start_of, start_fits, record_fits, spelling_of-parts, length-spelling_of}
 
 head_is : (len : ℕ) (bytes : List ℕ) → head_at len bytes ≡ (start_at bytes >>= λ start. content_head len start.0 start.1)
 unfolding head_at
@@ -66,7 +66,11 @@ head_enough len front more enough all = elim (cases_lt (length front) 1133) [
 put_size_of : (blob : Blob) → put_size (front_of blob) ≡ 30 + (15 + length blob.ctype + length blob.meta + length blob.body)
 put_size_of blob = omega arith
 
-content_head_again : (len : ℕ) (entry : Record) (rest : List ℕ) → IsContent entry → record_size entry ≤ len → content_head len (start_of entry) (content_text entry ++ rest) ≡ Some (head_of entry)
+-- the head of a record which so many bytes spell
+abbrev head_with : Record → ℕ → Head
+head_with entry size = record { lsn = lsn_of entry; id = id_of entry; gone = is_gone entry; len = size }
+
+content_head_again : (len : ℕ) (entry : Record) (rest : List ℕ) → IsContent entry → record_size entry ≤ len → content_head len (start_of entry) (content_text entry ++ rest) ≡ Some (head_with entry (record_size entry))
 unfolding content_head
 content_head_again len (Put lsn id blob) rest is le =
     let front = front_of blob in
@@ -81,20 +85,24 @@ content_head_again len (Delete lsn id created) rest is le =
     let head : Head = record { lsn = lsn; id = id; gone = true; len = 38 } in
     bind_is (number_at 8 (big_bytes 8 created ++ rest)) (λ _. found head) (created, rest) (number_again 8 created rest is)
 
-head_again : (len : ℕ) (entry : Record) (rest : List ℕ) → IsRecord entry → record_size entry ≤ len → head_at len (record_text entry ++ rest) ≡ Some (head_of entry)
+head_again : (len : ℕ) (entry : Record) (rest : List ℕ) → IsRecord entry → record_size entry ≤ len → head_at len (spelling_of entry ++ rest) ≡ Some (head_with entry (record_size entry))
 head_again len entry rest is le =
     let start = start_of entry in
     let text = content_text entry in
-    let split : record_text entry ++ rest ≡ start_text start ++ (text ++ rest) = ap (λ (x : List ℕ). x ++ rest) (record_text-parts entry) ∙ append_assoc (start_text start) text rest in
+    let split : spelling_of entry ++ rest ≡ start_text start ++ (text ++ rest) = ap (λ (x : List ℕ). x ++ rest) (spelling_of-parts entry) ∙ append_assoc (start_text start) text rest in
     ap (head_at len) split ∙ head_is len (start_text start ++ (text ++ rest))
     ∙ bind_is (start_at (start_text start ++ (text ++ rest))) (λ s. content_head len s.0 s.1) (start, text ++ rest) (start_again start (text ++ rest) (start_fits entry is))
     ∙ content_head_again len entry rest is.content le
 
-pub head_only : (front more : List ℕ) (len : ℕ) (entry : Record) → min 1133 len ≤ length front → length front + length more ≡ len → BeginsWith (front ++ more) entry → head_at len front ≡ Some (head_of entry)
+text_head : (len : ℕ) (text : List ℕ) (entry : Record) (rest : List ℕ) → Spells text entry → length text ≤ len → head_at len (text ++ rest) ≡ Some (head_of entry text)
+text_head len text entry rest (Spells.plain fields is) le =
+    let size : length text ≡ record_size entry = ap length is ∙ length-spelling_of entry fields in
+    ap (λ (l : List ℕ). head_at len (l ++ rest)) is ∙ head_again len entry rest fields (omega arith) ∙ ap (λ (n : ℕ). found (head_with entry n)) (sym size)
+
+pub head_only : (front more : List ℕ) (len : ℕ) (entry : Record) → min 1133 len ≤ length front → length front + length more ≡ len → (begins : BeginsWith (front ++ more) entry) → head_at len front ≡ Some (head_of entry begins.text)
 head_only front more len entry enough all b =
-    let size = length-record_text entry b.fits in
-    let whole : length front + length more ≡ length (record_text entry) + length b.rest = sym (length-append front more) ∙ ap length b.parts ∙ length-append (record_text entry) b.rest in
-    sym (head_enough len front more enough all) ∙ ap (head_at len) b.parts ∙ head_again len entry b.rest b.fits (omega arith)
+    let whole : length front + length more ≡ length b.text + length b.rest = sym (length-append front more) ∙ ap length b.parts ∙ length-append b.text b.rest in
+    sym (head_enough len front more enough all) ∙ ap (head_at len) b.parts ∙ text_head len b.text entry b.rest b.spelled (omega arith)
 
 -- ---- a head is that of a record in front
 
@@ -105,7 +113,7 @@ record HasContent (start : Start) (bytes : List ℕ) (head : Head) : Type 0 wher
   content : IsContent entry
   rest : List ℕ
   parts : bytes ≡ content_text entry ++ rest
-  head_is : head ≡ head_of entry
+  head_is : head ≡ head_with entry (record_size entry)
 
 delete_head : (len lsn : ℕ) (id front more : List ℕ) (head : Head) → IsBytes front → content_head len (record { gone = true; lsn = lsn; id = id }) front ≡ Some head
     → HasContent (record { gone = true; lsn = lsn; id = id }) (front ++ more) head
@@ -162,7 +170,7 @@ has_content : (len : ℕ) (gone : Bool) (lsn : ℕ) (id front more : List ℕ) (
 has_content len true lsn id front more head fits all e = delete_head len lsn id front more head fits e
 has_content len false lsn id front more head fits all e = put_head_is len lsn id front more head fits all e
 
-pub head_found : (front more : List ℕ) (len : ℕ) (head : Head) → IsBytes front → length front + length more ≡ len → head_at len front ≡ Some head → (entry : Record) × BeginsWith (front ++ more) entry × (head ≡ head_of entry)
+pub head_found : (front more : List ℕ) (len : ℕ) (head : Head) → IsBytes front → length front + length more ≡ len → head_at len front ≡ Some head → (entry : Record) × (begins : BeginsWith (front ++ more) entry) × (head ≡ head_of entry begins.text)
 head_found front more len head fits all e =
     let a = bind_some (start_at front) (λ s. content_head len s.0 s.1) head (sym (head_is len front) ∙ e) in
     let s = a.0.0 in
@@ -171,13 +179,17 @@ head_found front more len head fits all e =
     let thirty : length (start_text s) ≡ 30 = length-start_text s t.1 in
     let c = has_content len s.gone s.lsn s.id a.0.1 more head t.0.rest_fits (omega arith) a.2 in
     let start : IsStart (start_of c.entry) = subst IsStart (sym c.start_is) t.1 in
-    let text : start_text s ++ (content_text c.entry ++ c.rest) ≡ record_text c.entry ++ c.rest =
+    let text : start_text s ++ (content_text c.entry ++ c.rest) ≡ spelling_of c.entry ++ c.rest =
     sym (append_assoc (start_text s) (content_text c.entry) c.rest)
     ∙ ap (λ (x : Start). (start_text x ++ content_text c.entry) ++ c.rest) (sym c.start_is)
-    ∙ ap (λ (x : List ℕ). x ++ c.rest) (sym (record_text-parts c.entry)) in
+    ∙ ap (λ (x : List ℕ). x ++ c.rest) (sym (spelling_of-parts c.entry)) in
     let joined : front ++ more ≡ start_text s ++ (a.0.1 ++ more) = ap (λ (x : List ℕ). x ++ more) t.0.parts ∙ append_assoc (start_text s) a.0.1 more in
-    (c.entry, record { fits = record_fits c.entry start c.content; rest = c.rest; parts = joined ∙ ap (λ (x : List ℕ). start_text s ++ x) c.parts ∙ text }, c.head_is)
+    let fields : IsRecord c.entry = record_fits c.entry start c.content in (
+      c.entry,
+      record { text = spelling_of c.entry; spelled = Spells.plain fields refl; rest = c.rest; parts = joined ∙ ap (λ (x : List ℕ). start_text s ++ x) c.parts ∙ text },
+      c.head_is ∙ ap (head_with c.entry) (sym (length-spelling_of c.entry fields)),
+    )
 
-pub head_if : (front more : List ℕ) (len : ℕ) (told : Option Head) → IsBytes front → length front + length more ≡ len → told ≡ head_at len front → IfSome told (λ head. (entry : Record) × BeginsWith (front ++ more) entry × (head ≡ head_of entry))
+pub head_if : (front more : List ℕ) (len : ℕ) (told : Option Head) → IsBytes front → length front + length more ≡ len → told ≡ head_at len front → IfSome told (λ head. (entry : Record) × (begins : BeginsWith (front ++ more) entry) × (head ≡ head_of entry begins.text))
 head_if front more len (Some head) fits all e = head_found front more len head fits all (sym e)
 head_if front more len None fits all e = tt
