@@ -8,15 +8,15 @@ use Rattle.gate_slots.specs.Slots.{CurrentSlot, IsLoaded}
 use Rattle.gate_slots.proofs.OtherSlot.{cell_same}
 use Rattle.msg_format.specs.declared.record.Record.{Record}
 use Rattle.part_log.specs.declared.segment.SegmentInfo.{SegmentInfo}
-use Rattle.part_log.specs.Records.{RisesFrom, next_after, Placed, placed_from, records_of}
+use Rattle.part_log.specs.Records.{Written, entries_of, RisesFrom, next_after, Placed, placed_from, records_of}
 use Rattle.part_log.specs.Segments.{place_of, lives_of, ChangesIn}
 use Rattle.part_log.specs.Images.{AllHold, joined, HasLog}
 use Rattle.part_log.specs.Log.{LogTable, manifest_of, AllFit, IsTable, IsFront, AllFront, AllSized, placed_in, IsShown}
-use Rattle.part_log.proofs.Records.{holds_records, records_of-append, records_of-placed}
+use Rattle.part_log.proofs.Records.{holds_records, records_of-append, records_of-placed, entries_of-append}
 use Rattle.part_log.proofs.Manifests.{Without, lower_floor}
 
 -- the same bytes in a segment have the same records in front
-pub front_same : (segment : ℕ) (info : SegmentInfo) (part : List Record) (d c : List ℕ) → info.used ≤ segment → range (place_of segment info.segment) segment c ≡ range (place_of segment info.segment) segment d → IsFront segment info part d → IsFront segment info part c
+pub front_same : (segment : ℕ) (info : SegmentInfo) (part : List Written) (d c : List ℕ) → info.used ≤ segment → range (place_of segment info.segment) segment c ≡ range (place_of segment info.segment) segment d → IsFront segment info part d → IsFront segment info part c
 front_same segment info part d c fits same was =
     let start : ℕ = place_of segment info.segment in
     record {
@@ -25,7 +25,7 @@ front_same segment info part d c fits same was =
     }
 
 -- a change in another segment leaves the records in front of these
-pub fronts_stay : (segment target : ℕ) (infos : List SegmentInfo) (parts : List (List Record)) (d c : List ℕ) → ChangesIn segment target d c → Without target infos → AllFit segment infos → AllFront segment infos parts d → AllFront segment infos parts c
+pub fronts_stay : (segment target : ℕ) (infos : List SegmentInfo) (parts : List (List Written)) (d c : List ℕ) → ChangesIn segment target d c → Without target infos → AllFit segment infos → AllFront segment infos parts d → AllFront segment infos parts c
 fronts_stay segment target [] [] d c changes apart fit fronts = tt
 fronts_stay segment target [] (part ∷ parts) d c changes apart fit fronts = absurd fronts
 fronts_stay segment target (info ∷ infos) [] d c changes apart fit fronts = absurd fronts
@@ -34,7 +34,7 @@ fronts_stay segment target (info ∷ infos) (part ∷ parts) d c changes apart f
   fronts_stay segment target infos parts d c changes apart.1 fit.1 fronts.1,
 )
 
-pub all_hold : (segment : ℕ) (infos : List SegmentInfo) (parts : List (List Record)) (c : List ℕ) → AllFit segment infos → AllSized infos parts → AllFront segment infos parts c → AllHold segment c (lives_of infos) parts
+pub all_hold : (segment : ℕ) (infos : List SegmentInfo) (parts : List (List Written)) (c : List ℕ) → AllFit segment infos → AllSized infos parts → AllFront segment infos parts c → AllHold segment c (lives_of infos) parts
 all_hold segment [] [] c fit sized fronts = tt
 all_hold segment [] (part ∷ parts) c fit sized fronts = absurd fronts
 all_hold segment (info ∷ infos) [] c fit sized fronts = absurd fronts
@@ -43,18 +43,19 @@ all_hold segment (info ∷ infos) (part ∷ parts) c fit sized fronts = (
   all_hold segment infos parts c fit.1 sized.2 fronts.1,
 )
 
-pub records_of-placed_in : (segment : ℕ) (infos : List SegmentInfo) (parts : List (List Record)) → AllSized infos parts → records_of (placed_in segment infos parts) ≡ joined parts
+pub records_of-placed_in : (segment : ℕ) (infos : List SegmentInfo) (parts : List (List Written)) → AllSized infos parts → records_of (placed_in segment infos parts) ≡ entries_of (joined parts)
 records_of-placed_in segment [] [] sized = refl
 records_of-placed_in segment [] (part ∷ parts) sized = absurd sized
 records_of-placed_in segment (info ∷ infos) [] sized = absurd sized
 records_of-placed_in segment (info ∷ infos) (part ∷ parts) sized =
     records_of-append (placed_from (place_of segment info.segment) part) (placed_in segment infos parts)
     ∙ ap (λ (l : List Record). l ++ records_of (placed_in segment infos parts)) (records_of-placed (place_of segment info.segment) part)
-    ∙ ap (λ (l : List Record). part ++ l) (records_of-placed_in segment infos parts sized.2)
+    ∙ ap (λ (l : List Record). entries_of part ++ l) (records_of-placed_in segment infos parts sized.2)
+    ∙ sym (entries_of-append part (joined parts))
 
 -- bytes that show a table's records stand for them
-pub shown_stands : (table : LogTable) (floor : ℕ) (parts : List (List Record)) (c : List ℕ) → IsTable table → AllSized table.segments parts → RisesFrom 0 (joined parts)
-    → table.end ≡ max floor (next_after 0 (joined parts)) → IsShown table floor parts c → HasLog table.settings c (joined parts) table.end
+pub shown_stands : (table : LogTable) (floor : ℕ) (parts : List (List Written)) (c : List ℕ) → IsTable table → AllSized table.segments parts → RisesFrom 0 (joined parts)
+    → table.end ≡ max floor (next_after 0 (joined parts)) → IsShown table floor parts c → HasLog table.settings c (entries_of (joined parts)) table.end
 shown_stands table floor parts c good sized rises ends shown = record {
   manifest = manifest_of table floor;
   has = record { value = shown.value; good = lower_floor table table.end floor (omega (arith, ends)) good.manifest };
@@ -67,7 +68,7 @@ shown_stands table floor parts c good sized rises ends shown = record {
 }
 
 -- the records of a log's list
-pub its_records : (table : LogTable) (parts : List (List Record)) (placed : List Placed) → AllSized table.segments parts → placed ≡ placed_in table.settings.segment table.segments parts → records_of placed ≡ joined parts
+pub its_records : (table : LogTable) (parts : List (List Written)) (placed : List Placed) → AllSized table.segments parts → placed ≡ placed_in table.settings.segment table.segments parts → records_of placed ≡ entries_of (joined parts)
 its_records table parts placed sized all = ap records_of all ∙ records_of-placed_in table.settings.segment table.segments parts sized
 
 -- the manifest's cell is the same

@@ -8,7 +8,7 @@ use Rattle.log_manifest.specs.declared.manifest.LogSettings.{LogSettings}
 use Rattle.log_manifest.specs.declared.manifest.Manifest.{Manifest}
 use Rattle.msg_format.specs.declared.record.Record.{Record}
 use Rattle.part_log.specs.declared.segment.SegmentInfo.{SegmentInfo}
-use Rattle.part_log.specs.Records.{RisesFrom, next_after, Placed}
+use Rattle.part_log.specs.Records.{Written, entries_of, RisesFrom, next_after, Placed}
 use Rattle.part_log.specs.Segments.{last_used, with_more}
 use Rattle.part_log.specs.Images.{AllHold, joined, last_size, HasLayout, IsLaidOut, StandsFor}
 use Rattle.part_log.specs.Layout.{Layout, first_layout, with_new_segment, with_size}
@@ -52,7 +52,7 @@ some_layout settings bytes xs n (inl log) = (
 some_layout settings bytes xs n (inr new) = (first_layout, inr (new.none, refl))
 
 -- the used bytes of the last segment are those of its records
-sized_last : (infos : List SegmentInfo) (parts : List (List Record)) → AllSized infos parts → last_used infos ≡ last_size parts
+sized_last : (infos : List SegmentInfo) (parts : List (List Written)) → AllSized infos parts → last_used infos ≡ last_size parts
 sized_last [] [] sized = refl
 sized_last [] (part ∷ parts) sized = absurd sized
 sized_last (info ∷ infos) [] sized = absurd sized
@@ -62,10 +62,10 @@ sized_last (info ∷ other ∷ infos) (part ∷ []) sized = absurd sized.2
 sized_last (info ∷ other ∷ infos) (part ∷ p ∷ parts) sized = sized_last (other ∷ infos) (p ∷ parts) sized.2
 
 -- bytes that show a table's records have its layout
-pub shown_layout : (table : LogTable) (floor : ℕ) (parts : List (List Record)) (c : List ℕ) → IsTable table → AllSized table.segments parts → RisesFrom 0 (joined parts)
+pub shown_layout : (table : LogTable) (floor : ℕ) (parts : List (List Written)) (c : List ℕ) → IsTable table → AllSized table.segments parts → RisesFrom 0 (joined parts)
     → table.end ≡ max floor (next_after 0 (joined parts)) → IsShown table floor parts c → table.slots.sequence ≡ (cell_at 0 c).sequence → HasLayout table.settings c (layout_of table)
 shown_layout table floor parts c good sized rises ends shown sequence = record {
-  records = joined parts;
+  records = entries_of (joined parts);
   log = record {
     manifest = manifest_of table floor;
     has = record { value = shown.value; good = lower_floor table table.end floor (omega (arith, ends)) good.manifest };

@@ -5,43 +5,42 @@ use Rattle.std.proofs.lemmas.List.{append-nil, drop_more, drop-set, take-set, ta
 use Rattle.disk_core.specs.Content.{range}
 use Rattle.disk_core.proofs.Ranges.{get_or-range, length-range}
 use Rattle.log_manifest.specs.declared.manifest.Live.{Live}
-use Rattle.msg_format.specs.declared.record.Record.{Record}
-use Rattle.msg_format.specs.Records.{head_of, record_text}
+use Rattle.msg_format.specs.Records.{head_of}
+use Rattle.msg_format.proofs.Spelled.{text_long}
 use Rattle.part_log.specs.declared.segment.Found.{Found}
 use Rattle.part_log.specs.declared.segment.SegmentInfo.{SegmentInfo}
-use Rattle.part_log.specs.Records.{laid, AreRecords, EndsHere, RisesFrom, next_after, first_lsn, Placed, placed_from}
+use Rattle.part_log.specs.Records.{Written, laid, AreWritten, EndsHere, RisesFrom, next_after, first_lsn, Placed, placed_from}
 use Rattle.part_log.specs.Segments.{place_of, lives_of, next_first, with_firsts}
 use Rattle.part_log.specs.Images.{joined, AllHold, EndsBadly, EndBadly}
 use Rattle.part_log.specs.Log.{AllFit, AllSized, AllFront, AllFirst, IsFront, placed_in}
 use Rattle.part_log.specs.Scan.{found_of, AllKnown, AreRead, IsRead}
-use Rattle.part_log.proofs.Texts.{long_text}
 use Rattle.part_log.proofs.Records.{RisesFrom-append, next_after-append}
 use Rattle.part_log.proofs.Scanning.{found_of-append}
 use Rattle.part_log.proofs.Fronts.{all_hold}
 
-sized-more : (infos : List SegmentInfo) (parts : List (List Record)) (info : SegmentInfo) (part : List Record) → info.used ≡ length (laid part) → AreRecords part → AllSized infos parts → AllSized (infos ++ info ∷ []) (parts ++ part ∷ [])
+sized-more : (infos : List SegmentInfo) (parts : List (List Written)) (info : SegmentInfo) (part : List Written) → info.used ≡ length (laid part) → AreWritten part → AllSized infos parts → AllSized (infos ++ info ∷ []) (parts ++ part ∷ [])
 sized-more [] [] info part size good sized = (size, good, tt)
 sized-more [] (p ∷ parts) info part size good sized = absurd sized
 sized-more (x ∷ xs) [] info part size good sized = absurd sized
 sized-more (x ∷ xs) (p ∷ parts) info part size good sized = (sized.0, sized.1, sized-more xs parts info part size good sized.2)
 
-known-more : (infos : List SegmentInfo) (parts : List (List Record)) (info : SegmentInfo) (part : List Record) → (1 ≤ info.used → info.first ≡ first_lsn part 0) → AllSized infos parts → AllKnown infos parts → AllKnown (infos ++ info ∷ []) (parts ++ part ∷ [])
+known-more : (infos : List SegmentInfo) (parts : List (List Written)) (info : SegmentInfo) (part : List Written) → (1 ≤ info.used → info.first ≡ first_lsn part 0) → AllSized infos parts → AllKnown infos parts → AllKnown (infos ++ info ∷ []) (parts ++ part ∷ [])
 known-more [] [] info part first sized known = (first, tt)
 known-more [] (p ∷ parts) info part first sized known = absurd sized
 known-more (x ∷ xs) [] info part first sized known = absurd sized
 known-more (x ∷ xs) (p ∷ parts) info part first sized known = (known.0, known-more xs parts info part first sized.2 known.1)
 
-front-more : (segment : ℕ) (infos : List SegmentInfo) (parts : List (List Record)) (info : SegmentInfo) (part : List Record) (c : List ℕ) → IsFront segment info part c → AllFront segment infos parts c → AllFront segment (infos ++ info ∷ []) (parts ++ part ∷ []) c
+front-more : (segment : ℕ) (infos : List SegmentInfo) (parts : List (List Written)) (info : SegmentInfo) (part : List Written) (c : List ℕ) → IsFront segment info part c → AllFront segment infos parts c → AllFront segment (infos ++ info ∷ []) (parts ++ part ∷ []) c
 front-more segment [] [] info part c front fronts = (front, tt)
 front-more segment [] (p ∷ parts) info part c front fronts = absurd fronts
 front-more segment (x ∷ xs) [] info part c front fronts = absurd fronts
 front-more segment (x ∷ xs) (p ∷ parts) info part c front fronts = (fronts.0, front-more segment xs parts info part c front fronts.1)
 
-joined-last : (parts : List (List Record)) (part : List Record) → joined (parts ++ part ∷ []) ≡ joined parts ++ part
+joined-last : (parts : List (List Written)) (part : List Written) → joined (parts ++ part ∷ []) ≡ joined parts ++ part
 joined-last [] part = append-nil part
-joined-last (p ∷ parts) part = ap (λ (l : List Record). p ++ l) (joined-last parts part) ∙ sym (append_assoc p (joined parts) part)
+joined-last (p ∷ parts) part = ap (λ (l : List Written). p ++ l) (joined-last parts part) ∙ sym (append_assoc p (joined parts) part)
 
-placed-more : (segment : ℕ) (infos : List SegmentInfo) (parts : List (List Record)) (info : SegmentInfo) (part : List Record) → AllSized infos parts
+placed-more : (segment : ℕ) (infos : List SegmentInfo) (parts : List (List Written)) (info : SegmentInfo) (part : List Written) → AllSized infos parts
     → placed_in segment (infos ++ info ∷ []) (parts ++ part ∷ []) ≡ placed_in segment infos parts ++ placed_from (place_of segment info.segment) part
 placed-more segment [] [] info part sized = append-nil (placed_from (place_of segment info.segment) part)
 placed-more segment [] (p ∷ parts) info part sized = absurd sized
@@ -59,30 +58,30 @@ shut_from : (start used segment : ℕ) (seen : List ℕ) → EndsHere (range (st
 shut_from start used segment seen (inl few) inside room is = omega (arith, few, length-range (start + used) (segment - used) seen (omega (arith, inside, room)), room)
 shut_from start used segment seen (inr shut) inside room is = shut (get_or-range (start + used) (segment - used) seen 0 (omega (arith, room)) ∙ ap (λ (k : ℕ). get_or seen k 0) (add-zero (start + used)) ∙ is)
 
-module _ (segment : ℕ) (seen : List ℕ) (infos : List SegmentInfo) (low : ℕ) (found : List Found) (parts : List (List Record)) (read : AreRead segment seen infos low found parts)
-    (info : SegmentInfo) (next : ℕ) (more : List Found) (records : List Record) (one : IsRead (place_of segment info.segment) low found seen info.used next more records) where
-  pub live_more : (1 ≤ info.used → info.first ≡ first_lsn records 0) → EndsHere (range (place_of segment info.segment + info.used) (segment - info.used) seen) → place_of segment info.segment + segment ≤ length seen
-      → AreRead segment seen (infos ++ info ∷ []) next more (parts ++ records ∷ [])
+module _ (segment : ℕ) (seen : List ℕ) (infos : List SegmentInfo) (low : ℕ) (found : List Found) (parts : List (List Written)) (read : AreRead segment seen infos low found parts)
+    (info : SegmentInfo) (next : ℕ) (more : List Found) (written : List Written) (one : IsRead (place_of segment info.segment) low found seen info.used next more written) where
+  pub live_more : (1 ≤ info.used → info.first ≡ first_lsn written 0) → EndsHere (range (place_of segment info.segment + info.used) (segment - info.used) seen) → place_of segment info.segment + segment ≤ length seen
+      → AreRead segment seen (infos ++ info ∷ []) next more (parts ++ written ∷ [])
   live_more first ends inside = record {
-    sized = sized-more infos parts info records (sym one.size) one.good read.sized;
-    known = known-more infos parts info records first read.sized read.known;
-    fronts = front-more segment infos parts info records seen (record { front = one.front; shut = shut_from (place_of segment info.segment) info.used segment seen ends inside }) read.fronts;
-    rises = subst (λ (l : List Record). RisesFrom 0 l) (sym (joined-last parts records)) (RisesFrom-append 0 (joined parts) records read.rises (subst (λ (k : ℕ). RisesFrom k records) read.next_is one.rises));
-    next_is = one.next_is ∙ ap (λ (k : ℕ). next_after k records) read.next_is ∙ sym (next_after-append 0 (joined parts) records) ∙ ap (λ (l : List Record). next_after 0 l) (sym (joined-last parts records));
+    sized = sized-more infos parts info written (sym one.size) one.good read.sized;
+    known = known-more infos parts info written first read.sized read.known;
+    fronts = front-more segment infos parts info written seen (record { front = one.front; shut = shut_from (place_of segment info.segment) info.used segment seen ends inside }) read.fronts;
+    rises = subst (λ (l : List Written). RisesFrom 0 l) (sym (joined-last parts written)) (RisesFrom-append 0 (joined parts) written read.rises (subst (λ (k : ℕ). RisesFrom k written) read.next_is one.rises));
+    next_is = one.next_is ∙ ap (λ (k : ℕ). next_after k written) read.next_is ∙ sym (next_after-append 0 (joined parts) written) ∙ ap (λ (l : List Written). next_after 0 l) (sym (joined-last parts written));
     found_is = one.found_is
-        ∙ ap (λ (l : List Found). l ++ found_of (placed_from (place_of segment info.segment) records)) read.found_is
-        ∙ sym (found_of-append (placed_in segment infos parts) (placed_from (place_of segment info.segment) records))
-        ∙ ap found_of (sym (placed-more segment infos parts info records read.sized));
+        ∙ ap (λ (l : List Found). l ++ found_of (placed_from (place_of segment info.segment) written)) read.found_is
+        ∙ sym (found_of-append (placed_in segment infos parts) (placed_from (place_of segment info.segment) written))
+        ∙ ap found_of (sym (placed-more segment infos parts info written read.sized));
   }
 
 -- the first record that was found in a segment
-pub first_found : (start low : ℕ) (before : List Found) (seen : List ℕ) (used next : ℕ) (found : List Found) (records : List Record) (lsn : ℕ) → IsRead start low before seen used next found records
-    → ((front more : List Found) → (one : Found) → found ≡ front ++ one ∷ more → length front ≡ length before → lsn ≡ one.head.lsn) → 1 ≤ used → lsn ≡ first_lsn records 0
+pub first_found : (start low : ℕ) (before : List Found) (seen : List ℕ) (used next : ℕ) (found : List Found) (written : List Written) (lsn : ℕ) → IsRead start low before seen used next found written
+    → ((front more : List Found) → (one : Found) → found ≡ front ++ one ∷ more → length front ≡ length before → lsn ≡ one.head.lsn) → 1 ≤ used → lsn ≡ first_lsn written 0
 first_found start low before seen used next found [] lsn read given some = absurd (omega (arith, read.size, some))
-first_found start low before seen used next found (r ∷ records) lsn read given some = given before (found_of (placed_from (start + length (record_text r)) records)) (record { place = start; head = head_of r }) read.found_is refl
+first_found start low before seen used next found (w ∷ written) lsn read given some = given before (found_of (placed_from (start + length w.text) written)) (record { place = start; head = head_of w.entry w.text }) read.found_is refl
 
 -- what stands in front of a segment that ends badly
-pub badly_among : (segment : ℕ) (seen : List ℕ) (lives : List Live) (before : List Live) (live : Live) (after : List Live) (infos : List SegmentInfo) (next : ℕ) (found : List Found) (parts : List (List Record)) (at offset : ℕ)
+pub badly_among : (segment : ℕ) (seen : List ℕ) (lives : List Live) (before : List Live) (live : Live) (after : List Live) (infos : List SegmentInfo) (next : ℕ) (found : List Found) (parts : List (List Written)) (at offset : ℕ)
     → lives ≡ before ++ live ∷ after → lives_of infos ≡ before → AllFit segment infos → AreRead segment seen infos next found parts → EndsBadly next (range (place_of segment live.segment) segment seen) offset
     → at ≡ place_of segment live.segment + offset → EndBadly segment seen lives at
 badly_among segment seen lives before live after infos next found parts at offset split same fit read bad is = record {
@@ -105,16 +104,16 @@ eq_true m n same = grind (arith, nat_tests)
 eq_false : (m n : ℕ) → m ≢ n → (m == n) ≡ false
 eq_false m n other = grind (arith, nat_tests)
 
-first_is : (infos : List SegmentInfo) (parts : List (List Record)) (end : ℕ) → AllSized infos parts → AllKnown infos parts → next_first infos end ≡ first_lsn (joined parts) end
+first_is : (infos : List SegmentInfo) (parts : List (List Written)) (end : ℕ) → AllSized infos parts → AllKnown infos parts → next_first infos end ≡ first_lsn (joined parts) end
 first_is [] [] end sized known = refl
 first_is [] (part ∷ parts) end sized known = absurd sized
 first_is (info ∷ infos) [] end sized known = absurd sized
 first_is (info ∷ infos) ([] ∷ parts) end sized known = ap (λ (b : Bool). if b then next_first infos end else info.first) (eq_true info.used 0 sized.0) ∙ first_is infos parts end sized.2 known.1
-first_is (info ∷ infos) ((r ∷ records) ∷ parts) end sized known =
-    let some : 38 ≤ info.used = omega (arith, sized.0, length-append (record_text r) (laid records), long_text r sized.1.0) in
+first_is (info ∷ infos) ((w ∷ written) ∷ parts) end sized known =
+    let some : 38 ≤ info.used = omega (arith, sized.0, length-append w.text (laid written), text_long w.text w.entry sized.1.0) in
     ap (λ (b : Bool). if b then next_first infos end else info.first) (eq_false info.used 0 (λ none. omega (arith, some, none))) ∙ known.0 (omega (arith, some))
 
-pub firsts_filled : (infos : List SegmentInfo) (parts : List (List Record)) (end : ℕ) → AllSized infos parts → AllKnown infos parts → AllFirst (with_firsts infos end) parts end
+pub firsts_filled : (infos : List SegmentInfo) (parts : List (List Written)) (end : ℕ) → AllSized infos parts → AllKnown infos parts → AllFirst (with_firsts infos end) parts end
 firsts_filled [] parts end sized known = tt
 firsts_filled (info ∷ infos) [] end sized known = absurd sized
 firsts_filled (info ∷ infos) (part ∷ parts) end sized known = (first_is (info ∷ infos) (part ∷ parts) end sized known, firsts_filled infos parts end sized.2 known.1)
@@ -123,7 +122,7 @@ pub lives_filled : (infos : List SegmentInfo) (end : ℕ) → lives_of (with_fir
 lives_filled [] end = refl
 lives_filled (info ∷ infos) end = ap (λ (l : List Live). record { segment = info.segment; generation = info.generation } ∷ l) (lives_filled infos end)
 
-pub sized_filled : (infos : List SegmentInfo) (parts : List (List Record)) (end : ℕ) → AllSized infos parts → AllSized (with_firsts infos end) parts
+pub sized_filled : (infos : List SegmentInfo) (parts : List (List Written)) (end : ℕ) → AllSized infos parts → AllSized (with_firsts infos end) parts
 sized_filled [] [] end sized = tt
 sized_filled [] (part ∷ parts) end sized = absurd sized
 sized_filled (info ∷ infos) [] end sized = absurd sized
@@ -133,13 +132,13 @@ pub fit_filled : (segment : ℕ) (infos : List SegmentInfo) (end : ℕ) → AllF
 fit_filled segment [] end fit = tt
 fit_filled segment (info ∷ infos) end fit = (fit.0, fit_filled segment infos end fit.1)
 
-pub fronts_filled : (segment : ℕ) (infos : List SegmentInfo) (parts : List (List Record)) (end : ℕ) (c : List ℕ) → AllFront segment infos parts c → AllFront segment (with_firsts infos end) parts c
+pub fronts_filled : (segment : ℕ) (infos : List SegmentInfo) (parts : List (List Written)) (end : ℕ) (c : List ℕ) → AllFront segment infos parts c → AllFront segment (with_firsts infos end) parts c
 fronts_filled segment [] [] end c fronts = tt
 fronts_filled segment [] (part ∷ parts) end c fronts = absurd fronts
 fronts_filled segment (info ∷ infos) [] end c fronts = absurd fronts
 fronts_filled segment (info ∷ infos) (part ∷ parts) end c fronts = (record { front = fronts.0.front; shut = fronts.0.shut }, fronts_filled segment infos parts end c fronts.1)
 
-pub placed_filled : (segment : ℕ) (infos : List SegmentInfo) (parts : List (List Record)) (end : ℕ) → placed_in segment (with_firsts infos end) parts ≡ placed_in segment infos parts
+pub placed_filled : (segment : ℕ) (infos : List SegmentInfo) (parts : List (List Written)) (end : ℕ) → placed_in segment (with_firsts infos end) parts ≡ placed_in segment infos parts
 placed_filled segment [] parts end = refl
 placed_filled segment (info ∷ infos) [] end = refl
 placed_filled segment (info ∷ infos) (part ∷ parts) end = ap (λ (l : List Placed). placed_from (place_of segment info.segment) part ++ l) (placed_filled segment infos parts end)

@@ -13,7 +13,7 @@ use Rattle.log_manifest.specs.declared.manifest.Live.{Live}
 use Rattle.log_manifest.specs.Manifests.{IsManifest, IsLive, manifest_text, segments_of, generations_of, AreApart}
 use Rattle.msg_format.specs.declared.record.Record.{Record}
 use Rattle.part_log.specs.declared.segment.SegmentInfo.{SegmentInfo}
-use Rattle.part_log.specs.Records.{RisesFrom, next_after, first_lsn, Placed, placed_from, records_of}
+use Rattle.part_log.specs.Records.{Written, entries_of, RisesFrom, next_after, first_lsn, Placed, placed_from, records_of}
 use Rattle.part_log.specs.Segments.{place_of, lives_of}
 use Rattle.part_log.specs.Images.{joined, HasLog, KeepsLog}
 use Rattle.part_log.specs.Log.{LogTable, manifest_of, AllFit, IsTable, IsFront, AllFront, AllSized, AllFirst, placed_in, IsShown, IsLog, new_info, with_segment, rolled_table}
@@ -29,29 +29,29 @@ fit-append : (segment : ℕ) (infos : List SegmentInfo) (info : SegmentInfo) →
 fit-append segment [] info small fit = (small, tt)
 fit-append segment (x ∷ xs) info small fit = (fit.0, fit-append segment xs info small fit.1)
 
-sized-append : (infos : List SegmentInfo) (parts : List (List Record)) (info : SegmentInfo) → info.used ≡ 0 → AllSized infos parts → AllSized (infos ++ info ∷ []) (parts ++ [] ∷ [])
+sized-append : (infos : List SegmentInfo) (parts : List (List Written)) (info : SegmentInfo) → info.used ≡ 0 → AllSized infos parts → AllSized (infos ++ info ∷ []) (parts ++ [] ∷ [])
 sized-append [] [] info none sized = (none, tt, tt)
 sized-append [] (part ∷ parts) info none sized = absurd sized
 sized-append (x ∷ xs) [] info none sized = absurd sized
 sized-append (x ∷ xs) (part ∷ parts) info none sized = (sized.0, sized.1, sized-append xs parts info none sized.2)
 
-joined-more : (parts : List (List Record)) → joined (parts ++ [] ∷ []) ≡ joined parts
+joined-more : (parts : List (List Written)) → joined (parts ++ [] ∷ []) ≡ joined parts
 joined-more [] = refl
-joined-more (part ∷ parts) = ap (λ (l : List Record). part ++ l) (joined-more parts)
+joined-more (part ∷ parts) = ap (λ (l : List Written). part ++ l) (joined-more parts)
 
-first-append : (infos : List SegmentInfo) (parts : List (List Record)) (info : SegmentInfo) (end : ℕ) → info.first ≡ end → AllSized infos parts → AllFirst infos parts end → AllFirst (infos ++ info ∷ []) (parts ++ [] ∷ []) end
+first-append : (infos : List SegmentInfo) (parts : List (List Written)) (info : SegmentInfo) (end : ℕ) → info.first ≡ end → AllSized infos parts → AllFirst infos parts end → AllFirst (infos ++ info ∷ []) (parts ++ [] ∷ []) end
 first-append [] [] info end is sized firsts = (is, tt)
 first-append [] (part ∷ parts) info end is sized firsts = absurd sized
 first-append (x ∷ xs) [] info end is sized firsts = absurd sized
-first-append (x ∷ xs) (part ∷ parts) info end is sized firsts = (firsts.0 ∙ ap (λ (l : List Record). first_lsn (part ++ l) end) (sym (joined-more parts)), first-append xs parts info end is sized.2 firsts.1)
+first-append (x ∷ xs) (part ∷ parts) info end is sized firsts = (firsts.0 ∙ ap (λ (l : List Written). first_lsn (part ++ l) end) (sym (joined-more parts)), first-append xs parts info end is sized.2 firsts.1)
 
-placed-append : (segment : ℕ) (infos : List SegmentInfo) (parts : List (List Record)) (info : SegmentInfo) → AllSized infos parts → placed_in segment (infos ++ info ∷ []) (parts ++ [] ∷ []) ≡ placed_in segment infos parts
+placed-append : (segment : ℕ) (infos : List SegmentInfo) (parts : List (List Written)) (info : SegmentInfo) → AllSized infos parts → placed_in segment (infos ++ info ∷ []) (parts ++ [] ∷ []) ≡ placed_in segment infos parts
 placed-append segment [] [] info sized = refl
 placed-append segment [] (part ∷ parts) info sized = absurd sized
 placed-append segment (x ∷ xs) [] info sized = absurd sized
 placed-append segment (x ∷ xs) (part ∷ parts) info sized = ap (λ (l : List Placed). placed_from (place_of segment x.segment) part ++ l) (placed-append segment xs parts info sized.2)
 
-front-append : (segment : ℕ) (infos : List SegmentInfo) (parts : List (List Record)) (info : SegmentInfo) (c : List ℕ) → IsFront segment info [] c → AllFront segment infos parts c → AllFront segment (infos ++ info ∷ []) (parts ++ [] ∷ []) c
+front-append : (segment : ℕ) (infos : List SegmentInfo) (parts : List (List Written)) (info : SegmentInfo) (c : List ℕ) → IsFront segment info [] c → AllFront segment infos parts c → AllFront segment (infos ++ info ∷ []) (parts ++ [] ∷ []) c
 front-append segment [] [] info c front fronts = (front, tt)
 front-append segment [] (part ∷ parts) info c front fronts = absurd fronts
 front-append segment (x ∷ xs) [] info c front fronts = absurd fronts
@@ -99,7 +99,7 @@ module _ (table : LogTable) (target at n : ℕ) (good : IsTable table) (apart : 
   cell_stays : (d c : List ℕ) → Torn (place_of table.settings.segment target + at) n d c → range 0 2048 c ≡ range 0 2048 d
   cell_stays d c torn = range-torn place n 0 2048 d c torn (inl (omega arith))
 
-  stays_shown : (floor : ℕ) (parts : List (List Record)) (d c : List ℕ) → Torn (place_of table.settings.segment target + at) n d c → IsShown table floor parts d → IsShown table floor parts c
+  stays_shown : (floor : ℕ) (parts : List (List Written)) (d c : List ℕ) → Torn (place_of table.settings.segment target + at) n d c → IsShown table floor parts d → IsShown table floor parts c
   stays_shown floor parts d c torn shown = record {
     value = value_same c d (Some (manifest_text (manifest_of table floor))) (cell_stays d c torn) shown.value;
     fronts = fronts_stay table.settings.segment target table.segments parts d c (write_in table.settings.segment target at n d c fits torn) apart good.fit shown.fronts;
@@ -139,7 +139,7 @@ module _ (table : LogTable) (target : ℕ) (slots : CurrentSlot) (text : List �
     sequence = sequence;
   }
 
-  named_too : (floor : ℕ) (parts : List (List Record)) (d c : List ℕ) → get_or d (place_of table.settings.segment target) 0 ≢ 79 → ReplacesCell 0 text d c → (cell_at 0 c).value ≡ Some text → IsShown table floor parts d
+  named_too : (floor : ℕ) (parts : List (List Written)) (d c : List ℕ) → get_or d (place_of table.settings.segment target) 0 ≢ 79 → ReplacesCell 0 text d c → (cell_at 0 c).value ≡ Some text → IsShown table floor parts d
       → IsShown (rolled_table table target slots) table.end (parts ++ [] ∷ []) c
   named_too floor parts d c shut by new shown = record {
     value = new ∙ ap (λ (l : List ℕ). Some l) is;
@@ -148,7 +148,7 @@ module _ (table : LogTable) (target : ℕ) (slots : CurrentSlot) (text : List �
         (fronts_stay table.settings.segment target table.segments parts d c (write_cell table.settings.segment target d c by.torn) apart good.fit shown.fronts);
   }
 
-  still_named : (floor : ℕ) (parts : List (List Record)) (d c : List ℕ) → ReplacesCell 0 text d c → (cell_at 0 c).value ≡ (cell_at 0 d).value → IsShown table floor parts d → IsShown table floor parts c
+  still_named : (floor : ℕ) (parts : List (List Written)) (d c : List ℕ) → ReplacesCell 0 text d c → (cell_at 0 c).value ≡ (cell_at 0 d).value → IsShown table floor parts d → IsShown table floor parts c
   still_named floor parts d c by same shown = record {
     value = same ∙ shown.value;
     fronts = fronts_stay table.settings.segment target table.segments parts d c (write_cell table.settings.segment target d c by.torn) apart good.fit shown.fronts;
@@ -178,19 +178,19 @@ module _ (table : LogTable) (target : ℕ) (slots : CurrentSlot) (text : List �
             ap (λ (l : List ℕ). get_or l (place_of table.settings.segment target) 0) (only e image) ∙ sym (byte_at (place_of table.settings.segment target) mid.seen) ∙ ap (λ (l : List ℕ). get_or l 0 0) holds.here in
             omega (arith, zero_byte, at)
 
-        no_more : (parts : List (List Record)) → joined (parts ++ [] ∷ []) ≡ joined parts
+        no_more : (parts : List (List Written)) → joined (parts ++ [] ∷ []) ≡ joined parts
         no_more parts = joined-more parts
 
         rolled_rises : RisesFrom 0 (joined (log.parts ++ [] ∷ []))
-        rolled_rises = subst (λ (l : List Record). RisesFrom 0 l) (sym (no_more log.parts)) log.rises
+        rolled_rises = subst (λ (l : List Written). RisesFrom 0 l) (sym (no_more log.parts)) log.rises
 
         rolled_ends : table.end ≡ max table.end (next_after 0 (joined (log.parts ++ [] ∷ [])))
-        rolled_ends = omega (arith, log.ends, ap (λ (l : List Record). next_after 0 l) (no_more log.parts))
+        rolled_ends = omega (arith, log.ends, ap (λ (l : List Written). next_after 0 l) (no_more log.parts))
 
         rolled_sized : AllSized (rolled_table table target slots).segments (log.parts ++ [] ∷ [])
         rolled_sized = sized-append table.segments log.parts (new_info table target) refl log.sized
 
-        records_are : records_of placed ≡ joined log.parts
+        records_are : records_of placed ≡ entries_of (joined log.parts)
         records_are = its_records table log.parts placed log.sized log.all
 
         stands_after : (e c : List ℕ) → mid.images e → ReplacesCell 0 text e c → HasLog table.settings c (records_of placed) table.end
@@ -198,7 +198,7 @@ module _ (table : LogTable) (target : ℕ) (slots : CurrentSlot) (text : List �
         stands_after e c image by = ⊎_elim
             (λ same. subst (λ (l : List Record). HasLog table.settings c l table.end) (sym records_are)
             (shown_stands table log.floor log.parts c good log.sized log.rises log.ends (still_named log.floor log.parts e c by same (blank_log.shown e image))))
-            (λ named. subst (λ (l : List Record). HasLog table.settings c l table.end) (no_more log.parts ∙ sym records_are)
+            (λ named. subst (λ (l : List Record). HasLog table.settings c l table.end) (ap entries_of (no_more log.parts) ∙ sym records_are)
             (shown_stands (rolled_table table target slots) table.end (log.parts ++ [] ∷ []) c rolled_good rolled_sized rolled_rises rolled_ends (named_too log.floor log.parts e c (shut e image) by named.0 (blank_log.shown e image))))
             by.value
 

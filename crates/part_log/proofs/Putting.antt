@@ -6,20 +6,21 @@ use Rattle.gate_slots.specs.Gate.{IsShut, OpensGate}
 use Rattle.log_manifest.specs.declared.manifest.Manifest.{Manifest}
 use Rattle.log_manifest.specs.Manifests.{IsLive}
 use Rattle.msg_format.specs.declared.record.Record.{Record}
-use Rattle.msg_format.specs.Records.{record_text, record_size}
+use Rattle.msg_format.specs.Records.{Spells, spelling_of, record_size}
+use Rattle.msg_format.proofs.Spelled.{text_long}
 use Rattle.part_log.specs.declared.segment.SegmentInfo.{SegmentInfo}
-use Rattle.part_log.specs.Records.{Placed, records_of}
+use Rattle.part_log.specs.Records.{Written, Placed, placed_at, written_of, records_of}
 use Rattle.part_log.specs.Segments.{place_of, last_segment, last_used, lives_of, with_more, ChangesIn}
 use Rattle.part_log.specs.Images.{KeepsLog, PutsLast}
 use Rattle.part_log.specs.Log.{LogTable, IsTable, IsLog, AllFront, Follows, next_place, grown, disk_size}
-use Rattle.part_log.proofs.Texts.{size_of_text, long_text}
+use Rattle.part_log.proofs.Texts.{size_of_text}
 use Rattle.part_log.proofs.Manifests.{length-lives_of}
 use Rattle.part_log.proofs.Segments.{write_in, writes_twice}
 use Rattle.part_log.proofs.Room.{inside_from}
 use Rattle.part_log.proofs.LastRecord.{long_rest, appending, appended, still_table}
 
 -- the gate behind the last record is closed
-last_shut : (segment : ℕ) (infos : List SegmentInfo) (parts : List (List Record)) (c : List ℕ) → 1 ≤ length infos → last_used infos + 2 ≤ segment → AllFront segment infos parts c → get_or c (place_of segment (last_segment infos) + last_used infos) 0 ≢ 79
+last_shut : (segment : ℕ) (infos : List SegmentInfo) (parts : List (List Written)) (c : List ℕ) → 1 ≤ length infos → last_used infos + 2 ≤ segment → AllFront segment infos parts c → get_or c (place_of segment (last_segment infos) + last_used infos) 0 ≢ 79
 last_shut segment [] parts c some room fronts = absurd (omega (arith, some))
 last_shut segment (info ∷ infos) [] c some room fronts = absurd fronts
 last_shut segment (info ∷ []) (part ∷ parts) c some room fronts = fronts.0.shut room
@@ -38,17 +39,20 @@ module _ (table : LogTable) (good : IsTable table) where
   next_inside n room = let inside = inside_from table (last_segment table.segments) (last_small _ table.segments some_segments good.manifest.each) in omega (arith, inside, room)
 
   module _ (entry : Record) (rest : List ℕ) (follows : Follows table entry rest) (room : last_used table.segments + record_size entry + 1 ≤ table.settings.segment) where
+    spelled : Spells (spelling_of entry) entry
+    spelled = Spells.plain follows.fields refl
+
     pub size_of_rest : length rest ≡ record_size entry
-    size_of_rest = long_rest table.settings.segment rest entry [] [] follows.whole ∙ size_of_text entry follows.fields
+    size_of_rest = long_rest table.settings.segment rest (written_of entry) [] [] follows.whole ∙ size_of_text entry follows.fields
 
     pub gate_inside : next_place table + 1 + length rest ≤ disk_size table.settings
     gate_inside = omega (arith, next_inside (record_size entry + 1) (omega (arith, room)), size_of_rest)
 
-    room_text : last_used table.segments + length (record_text entry) + 1 ≤ table.settings.segment
+    room_text : last_used table.segments + length (spelling_of entry) + 1 ≤ table.settings.segment
     room_text = omega (arith, room, size_of_text entry follows.fields)
 
     pub gate_shut : (content : Content) (placed : List Placed) → IsLog table content placed → IsShut (next_place table) content
-    gate_shut content placed log c image = last_shut table.settings.segment table.segments log.parts c some_segments (omega (arith, room, size_of_text entry follows.fields, long_text entry follows.fields)) (log.shown c image).fronts
+    gate_shut content placed log c image = last_shut table.settings.segment table.segments log.parts c some_segments (omega (arith, room, size_of_text entry follows.fields, text_long (spelling_of entry) entry spelled)) (log.shown c image).fronts
 
     pub put_outside : (old new : List ℕ) → Torn (next_place table) (length rest + 1) old new → ChangesIn table.settings.segment (last_segment table.segments) old new
     put_outside old new torn = write_in table.settings.segment (last_segment table.segments) (last_used table.segments) (length rest + 1) old new (omega (arith, room, size_of_rest)) torn
@@ -61,11 +65,11 @@ module _ (table : LogTable) (good : IsTable table) where
       seen_inside = omega (arith, whole, gate_inside)
 
       pub put_during : ChangesBy (PutsLast table.settings (last_segment table.segments) (records_of placed) table.end entry) old new
-      put_during = appending table rest entry follows.whole follows.fields follows.next good room_text old new placed log seen_inside opens
+      put_during = appending table rest (written_of entry) follows.whole spelled follows.next good room_text old new placed log seen_inside opens
 
-      pub put_log : get_or new.seen (next_place table) 0 ≡ 79 → Only new → IsLog (grown table (record_size entry)) new (placed ++ record { entry = entry; place = next_place table } ∷ [])
-      put_log is only = subst (λ (n : ℕ). IsLog (grown table n) new (placed ++ record { entry = entry; place = next_place table } ∷ [])) (size_of_text entry follows.fields)
-          (appended table rest entry follows.whole follows.fields follows.next good room_text old new placed log seen_inside opens is only)
+      pub put_log : get_or new.seen (next_place table) 0 ≡ 79 → Only new → IsLog (grown table (record_size entry)) new (placed ++ placed_at entry (next_place table) ∷ [])
+      put_log is only = subst (λ (n : ℕ). IsLog (grown table n) new (placed ++ placed_at entry (next_place table) ∷ [])) (size_of_text entry follows.fields)
+          (appended table rest (written_of entry) follows.whole spelled follows.next good room_text old new placed log seen_inside opens is only)
 
 -- a call that keeps the log, and then one that puts a record last
 module _ (table after : LogTable) (target : ℕ) (entry : Record) (records : List Record) (old mid new : Content) (keeps : ChangesBy (KeepsLog table.settings target records table.end) old mid) where

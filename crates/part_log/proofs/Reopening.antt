@@ -11,7 +11,7 @@ use Rattle.log_manifest.specs.Manifests.{IsManifest, manifest_text}
 use Rattle.msg_format.specs.declared.record.Record.{Record}
 use Rattle.part_log.specs.declared.segment.Found.{Found}
 use Rattle.part_log.specs.declared.segment.SegmentInfo.{SegmentInfo}
-use Rattle.part_log.specs.Records.{next_after, records_of}
+use Rattle.part_log.specs.Records.{Written, next_after, records_of}
 use Rattle.part_log.specs.Segments.{place_of, lives_of, with_firsts}
 use Rattle.part_log.specs.Images.{joined, HasLog, HasBadRecord, EndBadly, IsLaidOut, OpensLog, manifest_gate}
 use Rattle.part_log.specs.Log.{LogTable, AreInRange, AllFit, IsLog, IsShown, IsTable, layout_of, manifest_of, placed_in, disk_size}
@@ -42,7 +42,7 @@ module _ (manifest : Manifest) (good : IsManifest manifest) (ranges : AreInRange
     sequence = sequence;
   }
 
-  module _ (content : Content) (found : List Found) (parts : List (List Record)) (read : AreRead manifest.settings.segment content.seen infos next found parts) (value : (cell_at 0 content.seen).value ≡ Some (manifest_text manifest)) where
+  module _ (content : Content) (found : List Found) (parts : List (List Written)) (read : AreRead manifest.settings.segment content.seen infos next found parts) (value : (cell_at 0 content.seen).value ≡ Some (manifest_text manifest)) where
     its_end : end ≡ max manifest.floor (next_after 0 (joined parts))
     its_end = end_is ∙ ap (λ (n : ℕ). max manifest.floor n) read.next_is
 

@@ -4,57 +4,56 @@ use Rattle.std.proofs.lemmas.List.{append-nil, take_at, take-take}
 use Rattle.disk_core.specs.Content.{Content, ChangesBy, Only, Same, range}
 use Rattle.disk_core.proofs.Ranges.{range-split}
 use Rattle.disk_core.proofs.Changes.{chain, same_image, no_change}
-use Rattle.msg_format.specs.declared.record.Record.{Record}
-use Rattle.msg_format.specs.Records.{head_of, record_text}
+use Rattle.msg_format.specs.Records.{head_of}
 use Rattle.part_log.specs.declared.fault.OpenFault.TheVariants.{Damaged}
 use Rattle.part_log.specs.declared.segment.Found.{Found}
-use Rattle.part_log.specs.Records.{laid, Placed, placed_from}
+use Rattle.part_log.specs.Records.{Written, laid, Placed, placed_from}
 use Rattle.part_log.specs.Images.{EndsBadly}
 use Rattle.part_log.specs.Scan.{found_of, IsBroken, IsRead, ReadsOn}
-use Rattle.part_log.proofs.Texts.{size_of_text}
-use Rattle.part_log.proofs.Records.{AreRecords-one, RisesFrom-one, laid-one, length-laid-one, next_after-one, placed_from-one}
+use Rattle.part_log.proofs.Records.{AreWritten-one, RisesFrom-one, laid-one, length-laid-one, next_after-one, placed_from-one}
 
 pub found_of-append : (xs ys : List Placed) → found_of (xs ++ ys) ≡ found_of xs ++ found_of ys
 found_of-append [] ys = refl
-found_of-append (x ∷ xs) ys = ap (λ (l : List Found). record { place = x.place; head = head_of x.entry } ∷ l) (found_of-append xs ys)
+found_of-append (x ∷ xs) ys = ap (λ (l : List Found). record { place = x.place; head = head_of x.entry x.text } ∷ l) (found_of-append xs ys)
 
 pub none_read : (start low : ℕ) (before : List Found) (seen : List ℕ) → IsRead start low before seen 0 low before []
 none_read start low before seen = record { good = tt; rises = tt; size = refl; front = refl; next_is = refl; found_is = sym (append-nil before) }
 
-module _ (start segment low : ℕ) (before : List Found) (seen : List ℕ) (used next : ℕ) (found : List Found) (records : List Record) (within : used ≤ segment) (so_far : IsRead start low before seen used next found records) where
+module _ (start segment low : ℕ) (before : List Found) (seen : List ℕ) (used next : ℕ) (found : List Found) (written : List Written) (within : used ≤ segment) (so_far : IsRead start low before seen used next found written) where
   pub read_more : (n more_next : ℕ) (more : List Found) (on : ReadsOn (range (start + used) (segment - used) seen) (start + used) next found n more_next more) → n ≤ segment - used
-      → IsRead start low before seen (used + n) more_next more (records ++ on.entry ∷ [])
+      → IsRead start low before seen (used + n) more_next more (written ++ record { entry = on.entry; text = on.begins.text } ∷ [])
   read_more n more_next more on fits =
-      let text : List ℕ = record_text on.entry in
-      let long : length text ≡ n = size_of_text on.entry on.begins.fits ∙ sym on.size_is in
+      let text : List ℕ = on.begins.text in
+      let one_more : Written = record { entry = on.entry; text = on.begins.text } in
+      let long : length text ≡ n = sym on.size_is in
       let its_text : range (start + used) n seen ≡ text = sym (take-take n (segment - used) (drop (start + used) seen) fits) ∙ ap (λ (l : List ℕ). take n l) on.begins.parts ∙ take_at text on.begins.rest n long in
-      let place : start + used ≡ start + length (laid records) = omega (arith, so_far.size) in
-      let one : Found = record { place = start + used; head = head_of on.entry } in
+      let place : start + used ≡ start + length (laid written) = omega (arith, so_far.size) in
+      let one : Found = record { place = start + used; head = head_of on.entry on.begins.text } in
       record {
-        good = AreRecords-one records on.entry so_far.good on.begins.fits;
-        rises = RisesFrom-one low records on.entry so_far.rises (omega (arith, so_far.next_is, on.rises));
-        size = omega (arith, length-laid-one records on.entry, so_far.size, long);
-        front = range-split start used n seen ∙ ap (λ (l : List ℕ). l ++ range (start + used) n seen) so_far.front ∙ ap (λ (l : List ℕ). laid records ++ l) its_text ∙ sym (laid-one records on.entry);
-        next_is = on.next_is ∙ sym (next_after-one low records on.entry);
+        good = AreWritten-one written one_more so_far.good on.begins.spelled;
+        rises = RisesFrom-one low written one_more so_far.rises (omega (arith, so_far.next_is, on.rises));
+        size = omega (arith, length-laid-one written one_more, so_far.size, long);
+        front = range-split start used n seen ∙ ap (λ (l : List ℕ). l ++ range (start + used) n seen) so_far.front ∙ ap (λ (l : List ℕ). laid written ++ l) its_text ∙ sym (laid-one written one_more);
+        next_is = on.next_is ∙ sym (next_after-one low written one_more);
         found_is = on.found_is
             ∙ ap (λ (l : List Found). l ++ one ∷ []) so_far.found_is
-            ∙ append_assoc before (found_of (placed_from start records)) (one ∷ [])
+            ∙ append_assoc before (found_of (placed_from start written)) (one ∷ [])
             ∙ ap (λ (l : List Found). before ++ l)
-            (ap (λ (k : ℕ). found_of (placed_from start records) ++ record { place = k; head = head_of on.entry } ∷ []) place
-            ∙ sym (found_of-append (placed_from start records) (record { entry = on.entry; place = start + length (laid records) } ∷ []))
-            ∙ ap found_of (sym (placed_from-one start records on.entry)));
+            (ap (λ (k : ℕ). found_of (placed_from start written) ++ record { place = k; head = head_of on.entry on.begins.text } ∷ []) place
+            ∙ sym (found_of-append (placed_from start written) (record { entry = on.entry; text = on.begins.text; place = start + length (laid written) } ∷ []))
+            ∙ ap found_of (sym (placed_from-one start written one_more)));
       }
 
   pub ends_badly : IsBroken next (range (start + used) (segment - used) seen) → EndsBadly low (range start segment seen) used
   ends_badly broken = record {
-    records = records;
+    written = written;
     rest = range (start + used) (segment - used) seen;
     split = ap (λ (n : ℕ). range start n seen) (let e : segment ≡ used + (segment - used) = omega (arith, within) in e) ∙ range-split start used (segment - used) seen ∙ ap (λ (l : List ℕ). l ++ range (start + used) (segment - used) seen) so_far.front;
     good = so_far.good;
     rises = so_far.rises;
     size = so_far.size;
     goes_on = broken.goes_on;
-    none = λ entry more is fields rises. broken.none entry (record { fits = fields; rest = more; parts = is }) (omega (arith, so_far.next_is, rises));
+    none = λ entry begins rises. broken.none entry begins (omega (arith, so_far.next_is, rises));
   }
 
 pub same_twice : (old mid new : Content) → ChangesBy Same old mid → ChangesBy Same mid new → ChangesBy Same old new

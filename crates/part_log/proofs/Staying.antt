@@ -3,9 +3,8 @@ use Rattle.std.proofs.Common.{◌≡◌, inl, ℕ, ◌+◌, ◌≤◌, List, [],
 use Rattle.std.proofs.lemmas.List.{take-take}
 use Rattle.disk_core.specs.Content.{Content, Torn}
 use Rattle.disk_core.proofs.Ranges.{range-torn}
-use Rattle.msg_format.specs.declared.record.Record.{Record}
 use Rattle.part_log.specs.declared.segment.SegmentInfo.{SegmentInfo}
-use Rattle.part_log.specs.Records.{Placed, IsPlaced}
+use Rattle.part_log.specs.Records.{Written, Placed, IsPlaced}
 use Rattle.part_log.specs.Segments.{place_of, is_among, last_segment, last_used, ChangesIn}
 use Rattle.part_log.specs.Log.{LogTable, IsTable, IsLog, AllFit, AllVisible, next_place}
 use Rattle.part_log.proofs.Free.{without_from}
@@ -16,7 +15,7 @@ use Rattle.part_log.proofs.Segments.{write_in}
 use Rattle.part_log.proofs.Visible.{AllHere, here_from, in_segments, visible}
 
 -- a write behind the last record
-here_behind : (segment n : ℕ) (infos : List SegmentInfo) (parts : List (List Record)) (d c : List ℕ) → AllApart infos → AllFit segment infos → last_used infos + n ≤ segment
+here_behind : (segment n : ℕ) (infos : List SegmentInfo) (parts : List (List Written)) (d c : List ℕ) → AllApart infos → AllFit segment infos → last_used infos + n ≤ segment
     → Torn (place_of segment (last_segment infos) + last_used infos) n d c → AllHere segment infos parts d → AllHere segment infos parts c
 here_behind segment n [] parts d c apart fit room torn here = tt
 here_behind segment n (info ∷ infos) [] d c apart fit room torn here = absurd here

@@ -8,9 +8,9 @@ use Rattle.gate_slots.specs.Slots.{IsLoaded}
 use Rattle.log_manifest.specs.declared.manifest.Manifest.{Manifest}
 use Rattle.log_manifest.specs.Manifests.{IsLive}
 use Rattle.msg_format.specs.declared.record.Record.{Record}
-use Rattle.msg_format.specs.Records.{BeginsWith, IsRecord, record_text}
+use Rattle.msg_format.specs.Records.{BeginsWith, Spells}
 use Rattle.part_log.specs.declared.segment.SegmentInfo.{SegmentInfo}
-use Rattle.part_log.specs.Records.{laid, AreRecords, Placed, placed_from, IsPlaced}
+use Rattle.part_log.specs.Records.{Written, laid, AreWritten, Placed, placed_from, IsPlaced}
 use Rattle.part_log.specs.Segments.{place_of, lives_of}
 use Rattle.part_log.specs.Log.{LogTable, IsTable, IsLog, AllFit, AllSized, AllFront, placed_in, IsVisible}
 
@@ -23,52 +23,52 @@ placed_either p (x ∷ xs) ys (inr there) = ⊎_elim (λ (front : IsPlaced p xs)
 record StandsIn (place : ℕ) (bytes : List ℕ) (p : Placed) : Type 0 where
   offset : ℕ
   at : p.place ≡ place + offset
-  fits : offset + length (record_text p.entry) ≤ length bytes
-  here : range offset (length (record_text p.entry)) bytes ≡ record_text p.entry
-  good : IsRecord p.entry
+  fits : offset + length p.text ≤ length bytes
+  here : range offset (length p.text) bytes ≡ p.text
+  spelled : Spells p.text p.entry
 
-in_part : (place : ℕ) (part : List Record) (p : Placed) → AreRecords part → IsPlaced p (placed_from place part) → StandsIn place (laid part) p
+in_part : (place : ℕ) (part : List Written) (p : Placed) → AreWritten part → IsPlaced p (placed_from place part) → StandsIn place (laid part) p
 in_part place [] p good there = absurd there
-in_part place (r ∷ part) p good (inl same) =
-    let entry_is : p.entry ≡ r = ap (λ (q : Placed). q.entry) same in
+in_part place (w ∷ part) p good (inl same) =
+    let text_is : p.text ≡ w.text = ap (λ (q : Placed). q.text) same in
     record {
       offset = 0;
       at = omega (arith, ap (λ (q : Placed). q.place) same);
-      fits = omega (arith, ap (λ (e : Record). length (record_text e)) entry_is, length-append (record_text r) (laid part));
-      here = ap (λ (e : Record). range 0 (length (record_text e)) (record_text r ++ laid part)) entry_is ∙ take_at (record_text r) (laid part) (length (record_text r)) refl ∙ ap (λ (e : Record). record_text e) (sym entry_is);
-      good = subst (λ (e : Record). IsRecord e) (sym entry_is) good.0;
+      fits = omega (arith, ap (λ (l : List ℕ). length l) text_is, length-append w.text (laid part));
+      here = ap (λ (l : List ℕ). range 0 (length l) (w.text ++ laid part)) text_is ∙ take_at w.text (laid part) (length w.text) refl ∙ sym text_is;
+      spelled = subst (λ (q : Placed). Spells q.text q.entry) (sym same) good.0;
     }
-in_part place (r ∷ part) p good (inr there) =
-    let n : ℕ = length (record_text r) in
+in_part place (w ∷ part) p good (inr there) =
+    let n : ℕ = length w.text in
     let rest = in_part (place + n) part p good.1 there in
-    let m : ℕ = length (record_text p.entry) in
+    let m : ℕ = length p.text in
     record {
       offset = n + rest.offset;
       at = omega (arith, rest.at);
-      fits = omega (arith, rest.fits, length-append (record_text r) (laid part));
-      here = ap (λ (l : List ℕ). take m l) (sym (drop-drop rest.offset n (record_text r ++ laid part))) ∙ ap (λ (l : List ℕ). range rest.offset m l) (drop_at (record_text r) (laid part) n refl) ∙ rest.here;
-      good = rest.good;
+      fits = omega (arith, rest.fits, length-append w.text (laid part));
+      here = ap (λ (l : List ℕ). take m l) (sym (drop-drop rest.offset n (w.text ++ laid part))) ∙ ap (λ (l : List ℕ). range rest.offset m l) (drop_at w.text (laid part) n refl) ∙ rest.here;
+      spelled = rest.spelled;
     }
 
 -- these records stand in front of the segments, whatever is behind them
-abbrev pub AllHere : ℕ → List SegmentInfo → List (List Record) → List ℕ → Type 0
+abbrev pub AllHere : ℕ → List SegmentInfo → List (List Written) → List ℕ → Type 0
 AllHere segment [] parts bytes = Unit {0}
 AllHere segment (info ∷ infos) [] bytes = ⊥
 AllHere segment (info ∷ infos) (part ∷ parts) bytes = (range (place_of segment info.segment) info.used bytes ≡ laid part) × AllHere segment infos parts bytes
 
-pub here_from : (segment : ℕ) (infos : List SegmentInfo) (parts : List (List Record)) (c : List ℕ) → AllFront segment infos parts c → AllHere segment infos parts c
+pub here_from : (segment : ℕ) (infos : List SegmentInfo) (parts : List (List Written)) (c : List ℕ) → AllFront segment infos parts c → AllHere segment infos parts c
 here_from segment [] parts c fronts = tt
 here_from segment (info ∷ infos) [] c fronts = absurd fronts
 here_from segment (info ∷ infos) (part ∷ parts) c fronts = (fronts.0.front, here_from segment infos parts c fronts.1)
 
-pub in_segments : (manifest : Manifest) (infos : List SegmentInfo) (parts : List (List Record)) (c : List ℕ) (p : Placed) → All (IsLive manifest) (lives_of infos) → AllFit manifest.settings.segment infos → AllSized infos parts → AllHere manifest.settings.segment infos parts c
+pub in_segments : (manifest : Manifest) (infos : List SegmentInfo) (parts : List (List Written)) (c : List ℕ) (p : Placed) → All (IsLive manifest) (lives_of infos) → AllFit manifest.settings.segment infos → AllSized infos parts → AllHere manifest.settings.segment infos parts c
     → IsPlaced p (placed_in manifest.settings.segment infos parts) → IsVisible manifest.settings c p
 in_segments manifest [] parts c p each fit sized fronts there = absurd there
 in_segments manifest (info ∷ infos) [] c p each fit sized fronts there = absurd there
 in_segments manifest (info ∷ infos) (part ∷ parts) c p each fit sized fronts there = ⊎_elim
     (λ (here : IsPlaced p (placed_from (place_of manifest.settings.segment info.segment) part)).
     let stands = in_part (place_of manifest.settings.segment info.segment) part p sized.1 here in
-    let m : ℕ = length (record_text p.entry) in
+    let m : ℕ = length p.text in
     let inside : stands.offset + m ≤ info.used = omega (arith, stands.fits, sized.0) in
     let its : IsVisible manifest.settings c p = record {
       number = info.segment;
@@ -77,7 +77,7 @@ in_segments manifest (info ∷ infos) (part ∷ parts) c p each fit sized fronts
       at = stands.at;
       fits = omega (arith, inside, fit.0);
       here = ap (λ (k : ℕ). range k m c) stands.at ∙ sym (range-range (place_of manifest.settings.segment info.segment) info.used stands.offset m c inside) ∙ ap (range stands.offset m) fronts.0 ∙ stands.here;
-      good = stands.good;
+      spelled = stands.spelled;
     } in its)
     (λ (later : IsPlaced p (placed_in manifest.settings.segment infos parts)). in_segments manifest infos parts c p (λ k d lt. each (suc k) d (omega (arith, lt))) fit.1 sized.2 fronts.1 later)
     (placed_either p (placed_from (place_of manifest.settings.segment info.segment) part) (placed_in manifest.settings.segment infos parts) there)
@@ -86,11 +86,12 @@ pub visible : (table : LogTable) (content : Content) (placed : List Placed) (p :
 visible table content placed p good log there = in_segments _ table.segments log.parts content.seen p good.manifest.each good.fit log.sized (here_from table.settings.segment table.segments log.parts content.seen (log.shown content.seen content.sees).fronts) (subst (λ (l : List Placed). IsPlaced p l) log.all there)
 
 -- the bytes from there on begin with it
-pub begins_there : (place left : ℕ) (bytes : List ℕ) (entry : Record) → length (record_text entry) ≤ left → range place (length (record_text entry)) bytes ≡ record_text entry → IsRecord entry → BeginsWith (range place left bytes) entry
-begins_there place left bytes entry fits here good =
-    let n : ℕ = length (record_text entry) in
+pub begins_there : (place left : ℕ) (bytes : List ℕ) (entry : Record) (text : List ℕ) → length text ≤ left → range place (length text) bytes ≡ text → Spells text entry → BeginsWith (range place left bytes) entry
+begins_there place left bytes entry text fits here spelled =
+    let n : ℕ = length text in
     record {
-      fits = good;
+      text = text;
+      spelled = spelled;
       rest = range (place + n) (left - n) bytes;
       parts = ap (λ (k : ℕ). range place k bytes) (let e : left ≡ n + (left - n) = omega (arith, fits) in e) ∙ range-split place n (left - n) bytes ∙ ap (λ (l : List ℕ). l ++ range (place + n) (left - n) bytes) here;
     }

@@ -5,9 +5,8 @@ use Rattle.disk_core.specs.Content.{range}
 use Rattle.disk_core.proofs.Ranges.{range-split, length-range}
 use Rattle.msg_format.specs.declared.record.Record.{Record}
 use Rattle.msg_format.specs.declared.record.Head.{Head}
-use Rattle.msg_format.specs.Records.{BeginsWith, IsRecord, head_of, record_text}
+use Rattle.msg_format.specs.Records.{BeginsWith, head_of}
 use Rattle.part_log.specs.Scan.{IsHeld}
-use Rattle.part_log.proofs.Texts.{size_of_text}
 use Rattle.part_log.proofs.Visible.{begins_there}
 
 -- what is there, or this where nothing is
@@ -33,23 +32,19 @@ both_parts place count front bytes seen within held first rest =
     ∙ ap (λ (k : ℕ). range place k seen) (let e : n + (count - n) ≡ count = omega (arith, within) in e)
 
 -- A record that begins there stands in so many bytes that it fits.
-pub begins_short : (place left n : ℕ) (seen : List ℕ) (entry : Record) → n ≤ left → length (record_text entry) ≤ n → place + left ≤ length seen → BeginsWith (range place left seen) entry → BeginsWith (range place n seen) entry
-begins_short place left n seen entry within fits inside begins =
-    let m : ℕ = length (record_text entry) in
-    let here : range place m seen ≡ record_text entry =
+pub begins_short : (place left n : ℕ) (seen : List ℕ) (entry : Record) → n ≤ left → (begins : BeginsWith (range place left seen) entry) → length begins.text ≤ n → BeginsWith (range place n seen) entry
+begins_short place left n seen entry within begins fits =
+    let m : ℕ = length begins.text in
+    let here : range place m seen ≡ begins.text =
     sym (take-take m left (drop place seen) (omega (arith, within, fits)))
     ∙ ap (λ (l : List ℕ). take m l) begins.parts
-    ∙ take_at (record_text entry) begins.rest m refl in
-    begins_there place n seen entry fits here begins.fits
-
--- what the head says of a record's size
-pub size_of_head : (entry : Record) (head : Head) → IsRecord entry → head ≡ head_of entry → head.len ≡ length (record_text entry)
-size_of_head entry head good is = ap (λ (h : Head). h.len) is ∙ sym (size_of_text entry good)
+    ∙ take_at begins.text begins.rest m refl in
+    begins_there place n seen entry begins.text fits here begins.spelled
 
 -- a record that begins in bytes is no longer than they are
-pub size_inside : (bytes : List ℕ) (entry : Record) (head : Head) (left : ℕ) → length bytes ≡ left → BeginsWith bytes entry → head ≡ head_of entry → head.len ≤ left
+pub size_inside : (bytes : List ℕ) (entry : Record) (head : Head) (left : ℕ) → length bytes ≡ left → (begins : BeginsWith bytes entry) → head ≡ head_of entry begins.text → head.len ≤ left
 size_inside bytes entry head left long begins is =
-    omega (arith, long, size_of_head entry head begins.fits is, ap (λ (l : List ℕ). length l) begins.parts, length-append (record_text entry) begins.rest)
+    omega (arith, long, ap (λ (h : Head). h.len) is, ap (λ (l : List ℕ). length l) begins.parts, length-append begins.text begins.rest)
 
 -- the bytes behind a front
 pub behind_front : (place need left : ℕ) (seen front : List ℕ) → need ≤ left → place + left ≤ length seen → front ≡ range place need seen
@@ -60,7 +55,7 @@ behind_front place need left seen front within inside is = (
 )
 
 -- a head in front of bytes, of which only these are at hand, is that of a record within all of them
-pub head_inside : (left : ℕ) (front : List ℕ) (head : Head) → length front ≤ left → ((more : List ℕ) → length front + length more ≡ left → (entry : Record) × BeginsWith (front ++ more) entry × (head ≡ head_of entry)) → head.len ≤ left
+pub head_inside : (left : ℕ) (front : List ℕ) (head : Head) → length front ≤ left → ((more : List ℕ) → length front + length more ≡ left → (entry : Record) × (begins : BeginsWith (front ++ more) entry) × (head ≡ head_of entry begins.text)) → head.len ≤ left
 head_inside left front head within found =
     let more : List ℕ = replicate (left - length front) 0 in
     let rest : length more ≡ left - length front = length-replicate (left - length front) 0 in
@@ -70,11 +65,12 @@ head_inside left front head within found =
 
 -- of a front that has the head of a record, the head is found
 module _ (place need left : ℕ) (seen front : List ℕ) (answer : Option Head) (within : need ≤ left) (inside : place + left ≤ length seen) (is : front ≡ range place need seen)
-    (finds : (more : List ℕ) (entry : Record) → length front + length more ≡ left → BeginsWith (front ++ more) entry → answer ≡ Some (head_of entry)) where
-  pub head_found : (entry : Record) → BeginsWith (range place left seen) entry → answer ≡ Some (head_of entry)
+    (finds : (more : List ℕ) (entry : Record) → length front + length more ≡ left → (begins : BeginsWith (front ++ more) entry) → answer ≡ Some (head_of entry begins.text)) where
+  pub head_found : (entry : Record) → (begins : BeginsWith (range place left seen) entry) → answer ≡ Some (head_of entry begins.text)
   head_found entry begins =
       let both = behind_front place need left seen front within inside is in
-      finds (range (place + need) (left - need) seen) entry both.1 (subst (λ (l : List ℕ). BeginsWith l entry) (sym both.0) begins)
+      let more : List ℕ = range (place + need) (left - need) seen in
+      finds more entry both.1 (record { text = begins.text; spelled = begins.spelled; rest = begins.rest; parts = both.0 ∙ begins.parts })
 
-  pub size_found : (entry : Record) (head : Head) → answer ≡ Some head → BeginsWith (range place left seen) entry → head.len ≡ length (record_text entry)
-  size_found entry head some begins = size_of_head entry head begins.fits (same_some head (head_of entry) (sym some ∙ head_found entry begins))
+  pub size_found : (entry : Record) (head : Head) → answer ≡ Some head → (begins : BeginsWith (range place left seen) entry) → head.len ≡ length begins.text
+  size_found entry head some begins = ap (λ (h : Head). h.len) (same_some head (head_of entry begins.text) (sym some ∙ head_found entry begins))

@@ -7,19 +7,19 @@ use Rattle.log_manifest.specs.declared.manifest.Live.{Live}
 use Rattle.log_manifest.specs.declared.manifest.Manifest.{Manifest}
 use Rattle.log_manifest.specs.Manifests.{IsManifest, manifest_text}
 use Rattle.msg_format.specs.declared.record.Record.{Record}
-use Rattle.msg_format.specs.Records.{record_text, IsRecord, lsn_of}
-use Rattle.part_log.specs.Records.{laid, AreRecords, EndsHere, HoldsRecords, RisesFrom, next_after}
+use Rattle.msg_format.specs.Records.{BeginsWith, lsn_of}
+use Rattle.part_log.specs.Records.{Written, entries_of, laid, AreWritten, EndsHere, HoldsRecords, RisesFrom, next_after}
 use Rattle.part_log.specs.Segments.{place_of, ChangesIn}
 use Rattle.part_log.specs.Layout.{Layout, first_layout}
 
 -- the live segments hold these records, segment by segment
-abbrev pub AllHold : ℕ → List ℕ → List Live → List (List Record) → Type 0
+abbrev pub AllHold : ℕ → List ℕ → List Live → List (List Written) → Type 0
 AllHold segment bytes [] [] = Unit {0}
 AllHold segment bytes [] (part ∷ parts) = ⊥
 AllHold segment bytes (live ∷ lives) [] = ⊥
 AllHold segment bytes (live ∷ lives) (part ∷ parts) = HoldsRecords (range (place_of segment live.segment) segment bytes) part × AllHold segment bytes lives parts
 
-abbrev pub joined : List (List Record) → List Record
+abbrev pub joined : List (List Written) → List Written
 joined [] = []
 joined (part ∷ parts) = part ++ joined parts
 
@@ -33,11 +33,11 @@ pub record HasLog (settings : LogSettings) (bytes : List ℕ) (records : List Re
   pub manifest : Manifest
   pub has : HasManifest manifest bytes
   pub same : manifest.settings ≡ settings
-  pub parts : List (List Record)
+  pub parts : List (List Written)
   pub hold : AllHold settings.segment bytes manifest.live parts
-  pub all : records ≡ joined parts
-  pub rises : RisesFrom 0 records
-  pub ends : end ≡ max manifest.floor (next_after 0 records)
+  pub all : records ≡ entries_of (joined parts)
+  pub rises : RisesFrom 0 (joined parts)
+  pub ends : end ≡ max manifest.floor (next_after 0 (joined parts))
 
 -- A disk without a manifest is new, and stands for the empty log.
 pub record IsNew (bytes : List ℕ) (records : List Record) (end : ℕ) : Type 0 where
@@ -49,7 +49,7 @@ abbrev pub StandsFor : LogSettings → List ℕ → List Record → ℕ → Type
 StandsFor settings bytes records end = HasLog settings bytes records end ⊎ IsNew bytes records end
 
 -- how many bytes hold the records of the last segment
-abbrev pub last_size : List (List Record) → ℕ
+abbrev pub last_size : List (List Written) → ℕ
 last_size [] = 0
 last_size (part ∷ []) = length (laid part)
 last_size (part ∷ other ∷ parts) = last_size (other ∷ parts)
@@ -87,14 +87,14 @@ pub record HasBadManifest (bytes : List ℕ) (place : ℕ) : Type 0 where
 
 -- Whole records with rising lsns, and then at this offset an open gate with no record behind it, or with one whose lsn doesn't rise.
 pub record EndsBadly (low : ℕ) (bytes : List ℕ) (offset : ℕ) : Type 0 where
-  pub records : List Record
+  pub written : List Written
   pub rest : List ℕ
-  pub split : bytes ≡ laid records ++ rest
-  pub good : AreRecords records
-  pub rises : RisesFrom low records
-  pub size : length (laid records) ≡ offset
+  pub split : bytes ≡ laid written ++ rest
+  pub good : AreWritten written
+  pub rises : RisesFrom low written
+  pub size : length (laid written) ≡ offset
   pub goes_on : EndsHere rest → ⊥
-  pub none : (entry : Record) (more : List ℕ) → rest ≡ record_text entry ++ more → IsRecord entry → next_after low records ≤ lsn_of entry → ⊥
+  pub none : (entry : Record) → BeginsWith rest entry → next_after low written ≤ lsn_of entry → ⊥
 
 -- Of these live segments one ends badly, and all that stands in front of that place is whole.
 pub record EndBadly (segment : ℕ) (bytes : List ℕ) (lives : List Live) (place : ℕ) : Type 0 where
@@ -102,7 +102,7 @@ pub record EndBadly (segment : ℕ) (bytes : List ℕ) (lives : List Live) (plac
   pub live : Live
   pub after : List Live
   pub split : lives ≡ before ++ live ∷ after
-  pub parts : List (List Record)
+  pub parts : List (List Written)
   pub hold : AllHold segment bytes before parts
   pub rises : RisesFrom 0 (joined parts)
   pub offset : ℕ

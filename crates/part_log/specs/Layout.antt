@@ -45,7 +45,7 @@ with_size layout size = record layout { used = layout.used + size; end = layout.
 abbrev pub packed_with : LogSettings → Layout → ℕ → Layout
 packed_with settings layout size = with_size (if fits_behind settings layout size then layout else with_new_segment layout) size
 
--- with these records more, one after the other
+-- with these records more, each as it is written, one after the other
 abbrev pub packed_with_all : LogSettings → Layout → List Record → Layout
 packed_with_all settings layout [] = layout
 packed_with_all settings layout (r ∷ records) = packed_with_all settings (packed_with settings layout (record_size r)) records

@@ -8,9 +8,9 @@ use Rattle.log_manifest.specs.declared.manifest.LogSettings.{LogSettings}
 use Rattle.log_manifest.specs.declared.manifest.Manifest.{Manifest}
 use Rattle.log_manifest.specs.Manifests.{IsManifest, manifest_text}
 use Rattle.msg_format.specs.declared.record.Record.{Record}
-use Rattle.msg_format.specs.Records.{IsRecord, lsn_of, record_text}
+use Rattle.msg_format.specs.Records.{IsRecord, Spells, spelling_of, lsn_of}
 use Rattle.part_log.specs.declared.segment.SegmentInfo.{SegmentInfo}
-use Rattle.part_log.specs.Records.{laid, AreRecords, RisesFrom, next_after, first_lsn, Placed, placed_from, IsPlaced}
+use Rattle.part_log.specs.Records.{Written, laid, AreWritten, RisesFrom, next_after, first_lsn, Placed, placed_from, IsPlaced, HasPlace}
 use Rattle.part_log.specs.Segments.{place_of, lives_of, is_among, free_from, last_segment, last_used, with_more}
 use Rattle.part_log.specs.Images.{joined}
 use Rattle.part_log.specs.Layout.{Layout, fits_behind, has_no_room, has_no_segment, is_worn_out}
@@ -60,44 +60,44 @@ pub record IsTable (table : LogTable) : Type 0 where
   pub sequence : table.slots.sequence < 2 ^ 63
 
 -- These records stand in front of the segment, and a closed gate behind them.
-pub record IsFront (segment : ℕ) (info : SegmentInfo) (part : List Record) (bytes : List ℕ) : Type 0 where
+pub record IsFront (segment : ℕ) (info : SegmentInfo) (part : List Written) (bytes : List ℕ) : Type 0 where
   pub front : range (place_of segment info.segment) info.used bytes ≡ laid part
   pub shut : info.used + 2 ≤ segment → slice_index bytes (place_of segment info.segment + info.used) ≢ open_gate
 
-abbrev pub AllFront : ℕ → List SegmentInfo → List (List Record) → List ℕ → Type 0
+abbrev pub AllFront : ℕ → List SegmentInfo → List (List Written) → List ℕ → Type 0
 AllFront segment [] [] bytes = Unit {0}
 AllFront segment [] (part ∷ parts) bytes = ⊥
 AllFront segment (info ∷ infos) [] bytes = ⊥
 AllFront segment (info ∷ infos) (part ∷ parts) bytes = IsFront segment info part bytes × AllFront segment infos parts bytes
 
 -- each segment has as many used bytes as its records
-abbrev pub AllSized : List SegmentInfo → List (List Record) → Type 0
+abbrev pub AllSized : List SegmentInfo → List (List Written) → Type 0
 AllSized [] [] = Unit {0}
 AllSized [] (part ∷ parts) = ⊥
 AllSized (info ∷ infos) [] = ⊥
-AllSized (info ∷ infos) (part ∷ parts) = (info.used ≡ length (laid part)) × AreRecords part × AllSized infos parts
+AllSized (info ∷ infos) (part ∷ parts) = (info.used ≡ length (laid part)) × AreWritten part × AllSized infos parts
 
 -- The first lsn of a segment is that of the next record from its start on, or the end lsn where there is none.
-abbrev pub AllFirst : List SegmentInfo → List (List Record) → ℕ → Type 0
+abbrev pub AllFirst : List SegmentInfo → List (List Written) → ℕ → Type 0
 AllFirst [] parts end = Unit {0}
 AllFirst (info ∷ infos) [] end = ⊥
 AllFirst (info ∷ infos) (part ∷ parts) end = (info.first ≡ first_lsn (part ++ joined parts) end) × AllFirst infos parts end
 
 -- the records of segments, each with its place
-abbrev pub placed_in : ℕ → List SegmentInfo → List (List Record) → List Placed
+abbrev pub placed_in : ℕ → List SegmentInfo → List (List Written) → List Placed
 placed_in segment [] parts = []
 placed_in segment (info ∷ infos) [] = []
 placed_in segment (info ∷ infos) (part ∷ parts) = placed_from (place_of segment info.segment) part ++ placed_in segment infos parts
 
 -- These bytes have the manifest and the records that the table names.
-pub record IsShown (table : LogTable) (floor : ℕ) (parts : List (List Record)) (bytes : List ℕ) : Type 0 where
+pub record IsShown (table : LogTable) (floor : ℕ) (parts : List (List Written)) (bytes : List ℕ) : Type 0 where
   pub value : (cell_at 0 bytes).value ≡ Some (manifest_text (manifest_of table floor))
   pub fronts : AllFront table.settings.segment table.segments parts bytes
 
 -- Whatever a crash leaves of this content, it has these records, and the log can go on from its table.
 pub record IsLog (table : LogTable) (content : Content) (placed : List Placed) : Type 0 where
   pub floor : ℕ
-  pub parts : List (List Record)
+  pub parts : List (List Written)
   pub sized : AllSized table.segments parts
   pub all : placed ≡ placed_in table.settings.segment table.segments parts
   pub rises : RisesFrom 0 (joined parts)
@@ -172,7 +172,7 @@ pub record IsRolling (table : LogTable) (slots : CurrentSlot) (target : ℕ) (te
 pub record Follows (table : LogTable) (entry : Record) (rest : List ℕ) : Type 0 where
   pub fields : IsRecord entry
   pub next : lsn_of entry ≡ table.end
-  pub whole : open_gate ∷ rest ≡ record_text entry ++ 0 ∷ []
+  pub whole : open_gate ∷ rest ≡ spelling_of entry ++ 0 ∷ []
 
 -- the place behind the last record
 abbrev pub next_place : LogTable → ℕ
@@ -188,9 +188,9 @@ pub record IsVisible (settings : LogSettings) (bytes : List ℕ) (p : Placed) : 
   pub small : number < settings.segments
   pub offset : ℕ
   pub at : p.place ≡ place_of settings.segment number + offset
-  pub fits : offset + length (record_text p.entry) ≤ settings.segment
-  pub here : range p.place (length (record_text p.entry)) bytes ≡ record_text p.entry
-  pub good : IsRecord p.entry
+  pub fits : offset + length p.text ≤ settings.segment
+  pub here : range p.place (length p.text) bytes ≡ p.text
+  pub spelled : Spells p.text p.entry
 
 -- Each of these records can be read.
 abbrev pub AllVisible : LogSettings → List ℕ → List Placed → Type 0
@@ -201,4 +201,4 @@ pub record HasRecordAt (table : LogTable) (content : Content) (place : ℕ) : Ty
   pub placed : List Placed
   pub log : IsLog table content placed
   pub entry : Record
-  pub there : IsPlaced (record { entry = entry; place = place }) placed
+  pub there : HasPlace entry place placed

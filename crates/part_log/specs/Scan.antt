@@ -2,14 +2,14 @@
 use Rattle.std.specs.Prelude.{◌≡◌, ℕ, ◌+◌, ◌≤◌, List, [], ◌∷◌, ◌++◌, length}
 use Rattle.disk_core.specs.Content.{range}
 use Rattle.msg_format.specs.declared.record.Record.{Record}
-use Rattle.msg_format.specs.Records.{BeginsWith, head_of, record_size, lsn_of}
+use Rattle.msg_format.specs.Records.{BeginsWith, head_of, lsn_of}
 use Rattle.part_log.specs.declared.piece.Beginning.{Beginning}
 use Rattle.part_log.specs.declared.piece.Beginning.TheVariants.{Closed, Entry, Broken}
 use Rattle.part_log.specs.declared.segment.Found.{Found}
 use Rattle.part_log.specs.declared.segment.SegmentInfo.{SegmentInfo}
 use Rattle.part_log.specs.Images.{joined}
 use Rattle.part_log.specs.Log.{AllSized, AllFront, placed_in}
-use Rattle.part_log.specs.Records.{laid, AreRecords, EndsHere, RisesFrom, next_after, first_lsn, placed_from, Placed}
+use Rattle.part_log.specs.Records.{Written, laid, AreWritten, EndsHere, RisesFrom, next_after, first_lsn, placed_from, Placed}
 
 -- these bytes stand at this place
 abbrev pub IsHeld : ℕ → List ℕ → List ℕ → Type 0
@@ -18,22 +18,22 @@ IsHeld from bytes seen = bytes ≡ range from (length bytes) seen
 -- what begins in front of the bytes
 abbrev pub BeginsAs : List ℕ → Beginning → Type 0
 BeginsAs bytes Closed = EndsHere bytes
-BeginsAs bytes (Entry head) = (entry : Record) × BeginsWith bytes entry × (head ≡ head_of entry)
+BeginsAs bytes (Entry head) = (entry : Record) × (begins : BeginsWith bytes entry) × (head ≡ head_of entry begins.text)
 BeginsAs bytes Broken = (EndsHere bytes → ⊥) × ((entry : Record) → BeginsWith bytes entry → ⊥)
 
 -- what an opening hands out of records
 abbrev pub found_of : List Placed → List Found
 found_of [] = []
-found_of (p ∷ placed) = record { place = p.place; head = head_of p.entry } ∷ found_of placed
+found_of (p ∷ placed) = record { place = p.place; head = head_of p.entry p.text } ∷ found_of placed
 
 -- A record was read at a place: the one that begins there, whose lsn rises.
 pub record ReadsOn (bytes : List ℕ) (place low : ℕ) (found : List Found) (size next : ℕ) (more : List Found) : Type 0 where
   pub entry : Record
   pub begins : BeginsWith bytes entry
-  pub size_is : size ≡ record_size entry
+  pub size_is : size ≡ length begins.text
   pub rises : low ≤ lsn_of entry
   pub next_is : next ≡ lsn_of entry + 1
-  pub found_is : more ≡ found ++ record { place = place; head = head_of entry } ∷ []
+  pub found_is : more ≡ found ++ record { place = place; head = head_of entry begins.text } ∷ []
 
 -- an open gate with no record behind it, or with one whose lsn doesn't rise
 pub record IsBroken (low : ℕ) (bytes : List ℕ) : Type 0 where
@@ -41,22 +41,22 @@ pub record IsBroken (low : ℕ) (bytes : List ℕ) : Type 0 where
   pub none : (entry : Record) → BeginsWith bytes entry → low ≤ lsn_of entry → ⊥
 
 -- So many bytes in front of a segment hold records, which were found behind those from before.
-pub record IsRead (start low : ℕ) (before : List Found) (seen : List ℕ) (used next : ℕ) (found : List Found) (records : List Record) : Type 0 where
-  pub good : AreRecords records
-  pub rises : RisesFrom low records
-  pub size : length (laid records) ≡ used
-  pub front : range start used seen ≡ laid records
-  pub next_is : next ≡ next_after low records
-  pub found_is : found ≡ before ++ found_of (placed_from start records)
+pub record IsRead (start low : ℕ) (before : List Found) (seen : List ℕ) (used next : ℕ) (found : List Found) (written : List Written) : Type 0 where
+  pub good : AreWritten written
+  pub rises : RisesFrom low written
+  pub size : length (laid written) ≡ used
+  pub front : range start used seen ≡ laid written
+  pub next_is : next ≡ next_after low written
+  pub found_is : found ≡ before ++ found_of (placed_from start written)
 
 -- the first lsn of each segment that has records
-abbrev pub AllKnown : List SegmentInfo → List (List Record) → Type 0
+abbrev pub AllKnown : List SegmentInfo → List (List Written) → Type 0
 AllKnown [] parts = Unit {0}
 AllKnown (info ∷ infos) [] = ⊥
 AllKnown (info ∷ infos) (part ∷ parts) = (1 ≤ info.used → info.first ≡ first_lsn part 0) × AllKnown infos parts
 
 -- The records of these segments were found, and no other ones.
-pub record AreRead (segment : ℕ) (seen : List ℕ) (infos : List SegmentInfo) (next : ℕ) (found : List Found) (parts : List (List Record)) : Type 0 where
+pub record AreRead (segment : ℕ) (seen : List ℕ) (infos : List SegmentInfo) (next : ℕ) (found : List Found) (parts : List (List Written)) : Type 0 where
   pub sized : AllSized infos parts
   pub known : AllKnown infos parts
   pub fronts : AllFront segment infos parts seen

@@ -5,7 +5,7 @@ ghost use Rattle.outside.specs.Causes.{Rose};
 ghost use Rattle.disk_core.specs.Content.{ChangesBy};
 ghost use Rattle.msg_format.specs.declared.record.Record.{Record};
 ghost use Rattle.msg_format.specs.Records.{IsRecord, lsn_of, record_size};
-ghost use Rattle.part_log.specs.Records.{Placed, records_of};
+ghost use Rattle.part_log.specs.Records.{Placed, placed_at, records_of};
 ghost use Rattle.part_log.specs.Segments.{ChangesIn, last_segment, last_used, with_more};
 ghost use Rattle.part_log.specs.Images.{KeepsLog, PutsLast};
 ghost use Rattle.part_log.specs.Layout.{packed_with, with_new_segment, with_size};
@@ -71,7 +71,7 @@ impl<D: Disk> PartLog<D> {
         ensures during { D.tells → (placed : List Placed) → IsLog self.old.table (D.content self.old.disk) placed
             → ChangesBy (PutsLast self.old.table.settings (last_segment self.old.table.segments) (records_of placed) self.old.table.end entry.now) (D.content self.old.disk) (D.content self.new.disk) }
         ensures put { IfOk result (λ place. D.tells → (placed : List Placed) → IsLog self.old.table (D.content self.old.disk) placed
-            → IsLog self.new.table (D.content self.new.disk) (placed ++ record { entry = entry.now; place = place } ∷ [])) }
+            → IsLog self.new.table (D.content self.new.disk) (placed ++ placed_at entry.now place ∷ [])) }
         ensures outside { D.tells → ChangesIn self.old.table.settings.segment (last_segment self.old.table.segments) (D.content self.old.disk).seen (D.content self.new.disk).seen }
         ensures visible { D.tells → (placed : List Placed) → IsLog self.old.table (D.content self.old.disk) placed → AllVisible self.old.table.settings (D.content self.new.disk).seen placed }
         ensures good { OnOk result (IsTable self.new.table) }
@@ -110,7 +110,7 @@ impl<D: Disk> PartLog<D> {
         ensures during { D.tells → (placed : List Placed) → IsLog self.old.table (D.content self.old.disk) placed
             → ChangesBy (PutsLast self.old.table.settings (target_of self.old.table (record_size entry.now)) (records_of placed) self.old.table.end entry.now) (D.content self.old.disk) (D.content self.new.disk) }
         ensures put { IfOk result (λ place. D.tells → (placed : List Placed) → IsLog self.old.table (D.content self.old.disk) placed
-            → IsLog self.new.table (D.content self.new.disk) (placed ++ record { entry = entry.now; place = place } ∷ [])) }
+            → IsLog self.new.table (D.content self.new.disk) (placed ++ placed_at entry.now place ∷ [])) }
         ensures outside { D.tells → ChangesIn self.old.table.settings.segment (target_of self.old.table (record_size entry.now)) (D.content self.old.disk).seen (D.content self.new.disk).seen }
         // Also after a failure each record from before can be read.
         ensures visible { D.tells → (placed : List Placed) → IsLog self.old.table (D.content self.old.disk) placed → AllVisible self.old.table.settings (D.content self.new.disk).seen placed }

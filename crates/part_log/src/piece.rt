@@ -43,7 +43,7 @@ fn hold<D: Disk>(
 ) -> Result<(), ReadFault>
     requires inside { place + left ≤ D.size disk.old }
     requires within { need ≤ left }
-    requires least { need ≤ 1133 }
+    requires least { need ≤ LONGEST_FRONT }
     requires held { D.tells → IsHeld piece.old.from piece.old.bytes.items (D.content disk.old).seen }
     ensures during { D.tells → ChangesBy Same (D.content disk.old) (D.content disk.new) }
     ensures seen { D.tells → (D.content disk.new).seen ≡ (D.content disk.old).seen }
@@ -75,7 +75,7 @@ impl Piece {
 
     /// Whether so many bytes from a place on are at hand.
     fn holds(&self, place: u64, need: usize) -> bool
-        requires { need ≤ 1133 }
+        requires { need ≤ LONGEST_FRONT }
         ensures { IsTrue result ↔ ((self.now.from ≤ place) × (place + need ≤ self.now.from + length self.now.bytes.items)) }
     {
         place >= self.from

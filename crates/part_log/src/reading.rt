@@ -4,9 +4,9 @@ ghost use Rattle.std.specs.Prelude.{◌≡◌, ◌+◌, ◌^◌, ◌<◌, ◌≤
 ghost use Rattle.outside.specs.Causes.{Rose};
 ghost use Rattle.disk_core.specs.Content.{ChangesBy, Same, range};
 ghost use Rattle.log_manifest.specs.declared.manifest.LogSettings.{LogSettings};
-ghost use Rattle.msg_format.specs.declared.record.Record.{Record};
 ghost use Rattle.part_log.specs.declared.segment.Found.{Found};
 ghost use Rattle.part_log.specs.declared.segment.SegmentInfo.{SegmentInfo};
+ghost use Rattle.part_log.specs.Records.{Written};
 ghost use Rattle.part_log.specs.Segments.{lives_of, place_of, with_firsts};
 ghost use Rattle.part_log.specs.Images.{EndBadly, EndsBadly};
 ghost use Rattle.part_log.specs.Log.{AllFit};
@@ -59,8 +59,8 @@ fn read_live<D: Disk>(
 
     ensures fit { OnOk result (AllFit settings.now.segment segments.old.items → AllFit settings.now.segment segments.new.items) }
     ensures lives { OnOk result (lives_of segments.new.items ≡ lives_of segments.old.items ++ live.now ∷ []) }
-    ensures read { OnOk result (D.tells → (parts : List (List Record)) → AreRead settings.now.segment (D.content disk.old).seen segments.old.items scan.old.next scan.old.found.items parts
-        → (part : List Record) × AreRead settings.now.segment (D.content disk.old).seen segments.new.items scan.new.next scan.new.found.items (parts ++ part ∷ [])) }
+    ensures read { OnOk result (D.tells → (parts : List (List Written)) → AreRead settings.now.segment (D.content disk.old).seen segments.old.items scan.old.next scan.old.found.items parts
+        → (part : List Written) × AreRead settings.now.segment (D.content disk.old).seen segments.new.items scan.new.next scan.new.found.items (parts ++ part ∷ [])) }
 
     ensures damaged { (at : ℕ) → IsErrOf result (OpenFault.Damaged at) → D.tells
         → (offset : ℕ) × (at ≡ place_of settings.now.segment live.now.segment + offset) × EndsBadly scan.old.next (range (place_of settings.now.segment live.now.segment) settings.now.segment (D.content disk.old).seen) offset }
@@ -101,7 +101,7 @@ pub(crate) fn read_lives<D: Disk>(
     ensures next { scan.new.next ≤ 2 ^ 63 }
     ensures fit { IfOk result (λ segments. AllFit settings.now.segment segments.items) }
     ensures lives { IfOk result (λ segments. lives_of segments.items ≡ lives.now) }
-    ensures read { IfOk result (λ segments. D.tells → (parts : List (List Record)) × AreRead settings.now.segment (D.content disk.old).seen segments.items scan.new.next scan.new.found.items parts) }
+    ensures read { IfOk result (λ segments. D.tells → (parts : List (List Written)) × AreRead settings.now.segment (D.content disk.old).seen segments.items scan.new.next scan.new.found.items parts) }
 
     ensures damaged { (at : ℕ) → IsErrOf result (OpenFault.Damaged at) → D.tells → EndBadly settings.now.segment (D.content disk.old).seen lives.now at }
     ensures failed { IsErrOf result OpenFault.Failed → Rose (D.faults disk.old) (D.faults disk.new) }

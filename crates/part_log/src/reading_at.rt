@@ -5,7 +5,7 @@ ghost use Rattle.outside.specs.Causes.{Rose};
 ghost use Rattle.disk_core.specs.Content.{ChangesBy, Same, range};
 ghost use Rattle.msg_format.specs.declared.record.Record.{Record};
 ghost use Rattle.msg_format.specs.Records.{BeginsWith, IsRecord};
-ghost use Rattle.part_log.specs.Records.{IsPlaced, Placed};
+ghost use Rattle.part_log.specs.Records.{HasPlace, Placed};
 ghost use Rattle.part_log.specs.Segments.{place_of};
 ghost use Rattle.part_log.specs.Log.{AreInRange, HasRecordAt, IsLog, IsVisible, disk_size};
 
@@ -84,9 +84,9 @@ fn read_placed<D: Disk>(
     ensures during { D.tells → ChangesBy Same (D.content disk.old) (D.content disk.new) }
     ensures seen { D.tells → (D.content disk.new).seen ≡ (D.content disk.old).seen }
     ensures fields { IfOk result (λ found. IsRecord found) }
-    ensures read { D.tells → (entry : Record) → IsVisible settings.now (D.content disk.old).seen (record { entry = entry; place = place }) → IfOk result (λ found. found ≡ entry) }
+    ensures read { D.tells → (entry : Record) → (text : List ℕ) → IsVisible settings.now (D.content disk.old).seen (record { entry = entry; text = text; place = place }) → IfOk result (λ found. found ≡ entry) }
     // Over a disk that tells the record, it is the disk that failed.
-    ensures failed { IsErrOf result ReadFault.Failed → D.tells → (entry : Record) → IsVisible settings.now (D.content disk.old).seen (record { entry = entry; place = place }) → Rose (D.faults disk.old) (D.faults disk.new) }
+    ensures failed { IsErrOf result ReadFault.Failed → D.tells → (entry : Record) → (text : List ℕ) → IsVisible settings.now (D.content disk.old).seen (record { entry = entry; text = text; place = place }) → Rose (D.faults disk.old) (D.faults disk.new) }
     ensures size { D.size disk.new ≡ D.size disk.old }
     ensures later { D.faults disk.old ≤ D.faults disk.new }
 {
@@ -107,7 +107,7 @@ impl<D: Disk> PartLog<D> {
         requires visible { D.tells → self.old.down ≡ false → HasRecordAt self.old.table (D.content self.old.disk) place }
 
         // It is the record that was put there.
-        ensures read { D.tells → (placed : List Placed) → IsLog self.old.table (D.content self.old.disk) placed → (entry : Record) → IsPlaced (record { entry = entry; place = place }) placed → IfOk result (λ found. found ≡ entry) }
+        ensures read { D.tells → (placed : List Placed) → IsLog self.old.table (D.content self.old.disk) placed → (entry : Record) → HasPlace entry place placed → IfOk result (λ found. found ≡ entry) }
         ensures fields { IfOk result (λ found. IsRecord found) }
 
         // Nothing changes on the disk or of the log.

@@ -3,10 +3,9 @@
 ghost use Rattle.std.specs.Prelude.{◌≡◌, ◌+◌, ◌++◌, ◌∷◌, [], ◌-◌, ◌^◌, ◌≤◌, ℕ, List, None, OnOk, IfOk, IfSome, IsErrOf};
 ghost use Rattle.outside.specs.Causes.{Rose};
 ghost use Rattle.disk_core.specs.Content.{ChangesBy, Same, range};
-ghost use Rattle.msg_format.specs.declared.record.Record.{Record};
 ghost use Rattle.log_manifest.specs.declared.manifest.LogSettings.{LogSettings};
 ghost use Rattle.part_log.specs.Images.{EndsBadly};
-ghost use Rattle.part_log.specs.Records.{EndsHere};
+ghost use Rattle.part_log.specs.Records.{EndsHere, Written};
 ghost use Rattle.part_log.specs.Scan.{IsBroken, IsHeld, IsRead, ReadsOn};
 
 use crate::fault::OpenFault;
@@ -115,7 +114,7 @@ pub(crate) fn read_segment<D: Disk>(
     ensures next { scan.new.next ≤ 2 ^ 63 }
 
     ensures used { IfOk result (λ used. used ≤ segment) }
-    ensures read { IfOk result (λ used. D.tells → (records : List Record) × IsRead start scan.old.next scan.old.found.items (D.content disk.old).seen used scan.new.next scan.new.found.items records) }
+    ensures read { IfOk result (λ used. D.tells → (written : List Written) × IsRead start scan.old.next scan.old.found.items (D.content disk.old).seen used scan.new.next scan.new.found.items written) }
     ensures ended { IfOk result (λ used. D.tells → EndsHere (range (start + used) (segment - used) (D.content disk.old).seen)) }
 
     ensures damaged { (at : ℕ) → IsErrOf result (OpenFault.Damaged at) → D.tells → (offset : ℕ) × (at ≡ start + offset) × EndsBadly scan.old.next (range start segment (D.content disk.old).seen) offset }

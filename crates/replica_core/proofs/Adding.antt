@@ -5,10 +5,10 @@ use Rattle.disk_core.proofs.Changes.{widen}
 use Rattle.cell_model.specs.declared.cell.Cell.{Cell}
 use Rattle.cell_model.specs.Cells.{join, cell_in}
 use Rattle.msg_format.specs.declared.record.Record.{Record}
-use Rattle.msg_format.specs.Records.{id_of, head_of}
+use Rattle.msg_format.specs.Records.{id_of, head_of, spelling_of}
 use Rattle.part_log.specs.declared.segment.Found.{Found}
 use Rattle.part_log.specs.Images.{PutsLast, StandsFor}
-use Rattle.part_log.specs.Records.{Placed, records_of}
+use Rattle.part_log.specs.Records.{Placed, placed_at, records_of}
 use Rattle.part_log.specs.Scan.{found_of}
 use Rattle.part_log.specs.Log.{LogTable, IsTable, IsLog, AllVisible}
 use Rattle.part_log.proofs.Records.{records_of-append}
@@ -49,13 +49,13 @@ module _ (table : LogTable) (old : Content) (entries : List (List ℕ × Spot)) 
         }))
         by.stands)
 
-    module _ (after : LogTable) (new : Content) (more : List (List ℕ × Spot)) (place : ℕ) (log : IsLog after new (indexed.placed ++ record { entry = entry; place = place } ∷ []))
-        (noted : (other : List ℕ) → spot_in more other ≡ spot_for (record { place = place; head = head_of entry }) other (spot_in entries other)) where
+    module _ (after : LogTable) (new : Content) (more : List (List ℕ × Spot)) (place : ℕ) (log : IsLog after new (indexed.placed ++ placed_at entry place ∷ []))
+        (noted : (other : List ℕ) → spot_in more other ≡ spot_for (record { place = place; head = head_of entry (spelling_of entry) }) other (spot_in entries other)) where
       -- when it was put
       pub added_index : IsIndexed after new more
       added_index =
-          let p : Placed = record { entry = entry; place = place } in
-          let one : Found = record { place = place; head = head_of entry } in
+          let p : Placed = placed_at entry place in
+          let one : Found = record { place = place; head = head_of entry (spelling_of entry) } in
           record {
             placed = indexed.placed ++ p ∷ [];
             log = log;
@@ -70,7 +70,7 @@ module _ (table : LogTable) (old : Content) (entries : List (List ℕ × Spot)) 
       unfolding added_index
       added_cells fine other =
           its_cells after new more fine added_index other
-          ∙ ap (λ (l : List Record). cell_from l other) (records_of-append indexed.placed (record { entry = entry; place = place } ∷ []))
+          ∙ ap (λ (l : List Record). cell_from l other) (records_of-append indexed.placed (placed_at entry place ∷ []))
           ∙ joined_cells other
 
   -- where it wasn't put, and each record from before can be read still

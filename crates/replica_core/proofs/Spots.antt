@@ -13,9 +13,9 @@ use Rattle.cell_model.specs.Cells.{join, cell_in, cell_or_absent}
 use Rattle.log_manifest.specs.declared.manifest.LogSettings.{LogSettings}
 use Rattle.msg_format.specs.declared.record.Record.{Record}
 use Rattle.msg_format.specs.declared.record.Record.TheVariants.{Put, Delete}
-use Rattle.msg_format.specs.Records.{id_of, is_gone, head_of, record_text}
+use Rattle.msg_format.specs.Records.{id_of, is_gone, head_of}
 use Rattle.msg_format.specs.Reading.{record_at}
-use Rattle.msg_format.proofs.Spelled.{record_again}
+use Rattle.msg_format.proofs.Spelled.{text_read}
 use Rattle.part_log.specs.declared.segment.Found.{Found}
 use Rattle.part_log.specs.Records.{Placed, IsPlaced, records_of}
 use Rattle.part_log.specs.Scan.{found_of}
@@ -31,9 +31,9 @@ pub newest-one : (before : Option Spot) (found : List Found) (one : Found) (id :
 newest-one before [] one id = refl
 newest-one before (x ∷ found) one id = newest-one (spot_for x id before) found one id
 
-pub found_of-one : (placed : List Placed) (p : Placed) → found_of (placed ++ p ∷ []) ≡ found_of placed ++ record { place = p.place; head = head_of p.entry } ∷ []
+pub found_of-one : (placed : List Placed) (p : Placed) → found_of (placed ++ p ∷ []) ≡ found_of placed ++ record { place = p.place; head = head_of p.entry p.text } ∷ []
 found_of-one [] p = refl
-found_of-one (q ∷ placed) p = ap (λ (l : List Found). record { place = q.place; head = head_of q.entry } ∷ l) (found_of-one placed p)
+found_of-one (q ∷ placed) p = ap (λ (l : List Found). record { place = q.place; head = head_of q.entry q.text } ∷ l) (found_of-one placed p)
 
 pub spot_for-here : (one : Found) (id : List ℕ) (other : Option Spot) → is_same one.head.id id ≡ true → spot_for one id other ≡ Some (spot_of one)
 spot_for-here one id other is = ap (λ (b : Bool). if b then Some (spot_of one) else other) is
@@ -58,12 +58,12 @@ cell_in-cells bytes (e ∷ entries) id =
     found_or bytes (is_same id e.0) e.1 (lookup (is_at (slice_cmp nat_cmp id)) (cells_of bytes entries)) (spot_in entries id) (cell_in-cells bytes entries id)
 
 -- a record that can be read is found at its place
-pub read_there : (settings : LogSettings) (bytes : List ℕ) (p : Placed) → IsVisible settings bytes p → record_at (drop p.place bytes) ≡ Some (p.entry, drop (length (record_text p.entry)) (drop p.place bytes))
+pub read_there : (settings : LogSettings) (bytes : List ℕ) (p : Placed) → IsVisible settings bytes p → record_at (drop p.place bytes) ≡ Some (p.entry, drop (length p.text) (drop p.place bytes))
 read_there settings bytes p visible =
-    let n : ℕ = length (record_text p.entry) in
+    let n : ℕ = length p.text in
     let rest : List ℕ = drop p.place bytes in
-    let parts : rest ≡ record_text p.entry ++ drop n rest = sym (take-append-drop n rest) ∙ ap (λ (l : List ℕ). l ++ drop n rest) visible.here in
-    ap record_at parts ∙ record_again p.entry (drop n rest) visible.good
+    let parts : rest ≡ p.text ++ drop n rest = sym (take-append-drop n rest) ∙ ap (λ (l : List ℕ). l ++ drop n rest) visible.here in
+    ap record_at parts ∙ text_read p.text p.entry (drop n rest) visible.spelled
 
 cell_read : (entry : Record) (place : ℕ) (bytes rest : List ℕ) → record_at (drop place bytes) ≡ Some (entry, rest) → spot_cell bytes (record { place = place; gone = is_gone entry }) ≡ cell_of entry
 cell_read (Put lsn id blob) place bytes rest is = ap blob_cell is
@@ -71,7 +71,7 @@ cell_read (Delete lsn id created) place bytes rest is = refl
 
 -- its spot stands for what it brings
 pub spot_brings : (settings : LogSettings) (bytes : List ℕ) (p : Placed) → IsVisible settings bytes p → spot_cell bytes (record { place = p.place; gone = is_gone p.entry }) ≡ cell_of p.entry
-spot_brings settings bytes p visible = cell_read p.entry p.place bytes (drop (length (record_text p.entry)) (drop p.place bytes)) (read_there settings bytes p visible)
+spot_brings settings bytes p visible = cell_read p.entry p.place bytes (drop (length p.text) (drop p.place bytes)) (read_there settings bytes p visible)
 
 -- records that may stand behind those that gave this cell
 abbrev Admits : Cell → List ℕ → List Record → Type 0
@@ -112,7 +112,7 @@ newest_joins : (settings : LogSettings) (bytes : List ℕ) (before : Option Spot
 newest_joins settings bytes before [] id visible tidy admits = sym (join_absent (cell_at_spot bytes before))
 newest_joins settings bytes before (p ∷ placed) id visible tidy admits =
     let r : Record = p.entry in
-    let found : Found = record { place = p.place; head = head_of r } in
+    let found : Found = record { place = p.place; head = head_of r p.text } in
     let cell : Cell = cell_at_spot bytes before in
     let rest : Cell = cell_from (records_of placed) id in
     ⊎_elim
@@ -159,7 +159,7 @@ one_spot a b is = ap (spot_or a) is
 spot_from : (before : Option Spot) (placed : List Placed) (id : List ℕ) (spot : Spot) → newest_or before (found_of placed) id ≡ Some spot → (before ≡ Some spot) ⊎ HasSpot placed id spot
 spot_from before [] id spot is = inl is
 spot_from before (p ∷ placed) id spot is =
-    let found : Found = record { place = p.place; head = head_of p.entry } in
+    let found : Found = record { place = p.place; head = head_of p.entry p.text } in
     ⊎_elim
     (λ (was : spot_for found id before ≡ Some spot). ⊎_elim
     (λ (same : is_same (id_of p.entry) id ≡ true). inr (record {

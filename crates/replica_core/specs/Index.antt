@@ -12,7 +12,7 @@ use Rattle.msg_format.specs.declared.record.Record.{Record}
 use Rattle.msg_format.specs.declared.record.Record.TheVariants.{Put, Delete}
 use Rattle.msg_format.specs.Reading.{record_at}
 use Rattle.part_log.specs.declared.segment.Found.{Found}
-use Rattle.part_log.specs.Records.{Placed, IsPlaced, records_of}
+use Rattle.part_log.specs.Records.{Placed, HasPlace, records_of}
 use Rattle.part_log.specs.Scan.{found_of}
 use Rattle.part_log.specs.Log.{LogTable, IsTable, IsLog}
 use Rattle.replica_core.specs.declared.index.Spot.{Spot}
@@ -72,7 +72,7 @@ pub record HasPut (table : LogTable) (content : Content) (id : List ℕ) (place 
   pub placed : List Placed
   pub log : IsLog table content placed
   pub lsn : ℕ
-  pub there : IsPlaced (record { entry = Put lsn id blob; place = place }) placed
+  pub there : HasPlace (Put lsn id blob) place placed
 
 -- What an index notes of an id, beside the cell: nothing, a delete, or the place of its put.
 abbrev pub NotedAs : LogTable → Content → List ℕ → Cell → Option Spot → Type 0

@@ -7,8 +7,8 @@ ghost use Rattle.blob_id.specs.Blob.{IsBlob};
 ghost use Rattle.cell_model.specs.Cells.{join, cell_in};
 ghost use Rattle.cell_model.specs.declared.cell.Cell.TheVariants.{Absent, Held, Gone};
 ghost use Rattle.msg_format.specs.declared.record.Record.TheVariants as written;
-ghost use Rattle.msg_format.specs.Records.{IsRecord, lsn_of, record_size, id_of, head_of, is_gone};
-ghost use Rattle.part_log.specs.Records.{Placed, records_of};
+ghost use Rattle.msg_format.specs.Records.{IsRecord, lsn_of, record_size, id_of, head_of, is_gone, spelling_of};
+ghost use Rattle.part_log.specs.Records.{Placed, placed_at, records_of};
 ghost use Rattle.part_log.specs.Images.{PutsLast};
 ghost use Rattle.part_log.specs.Layout.{packed_with};
 ghost use Rattle.part_log.specs.Log.{AllVisible, IsLog, IsTable, is_full, layout_of, target_of};
@@ -48,8 +48,8 @@ fn put_noted<D: Disk>(
     ensures during { D.tells → (placed : List Placed) → IsLog log.old.table (D.content log.old.disk) placed
         → ChangesBy (PutsLast log.old.table.settings (target_of log.old.table (record_size entry.now)) (records_of placed) log.old.table.end entry.now) (D.content log.old.disk) (D.content log.new.disk) }
     ensures put { IfOk result (λ place. D.tells → (placed : List Placed) → IsLog log.old.table (D.content log.old.disk) placed
-        → IsLog log.new.table (D.content log.new.disk) (placed ++ record { entry = entry.now; place = place } ∷ [])) }
-    ensures noted { IfOk result (λ place. (other : List ℕ) → spot_in index.new.entries other ≡ spot_for (record { place = place; head = head_of entry.now }) other (spot_in index.old.entries other)) }
+        → IsLog log.new.table (D.content log.new.disk) (placed ++ placed_at entry.now place ∷ [])) }
+    ensures noted { IfOk result (λ place. (other : List ℕ) → spot_in index.new.entries other ≡ spot_for (record { place = place; head = head_of entry.now (spelling_of entry.now) }) other (spot_in index.old.entries other)) }
     ensures rests { OnErr result (index.new.entries ≡ index.old.entries) }
     ensures visible { D.tells → (placed : List Placed) → IsLog log.old.table (D.content log.old.disk) placed → AllVisible log.old.table.settings (D.content log.new.disk).seen placed }
     ensures good { OnOk result (IsTable log.new.table) }

@@ -1,8 +1,8 @@
 use Rattle.std.proofs.Common.{◌≡◌, ◌≤◌, ◌^◌, List, take}
 use Rattle.disk_core.specs.Content.{ChangesBy, Same}
-use Rattle.msg_format.specs.declared.record.Record.{Record}
 use Rattle.part_log.specs.Segments.{lives_of}
 use Rattle.part_log.specs.Log.{AllFit}
+use Rattle.part_log.specs.Records.{Written}
 use Rattle.part_log.specs.Scan.{AreRead, IsHeld}
 use Rattle.part_log.proofs.reading.read_lives.Given as goal
 
@@ -16,5 +16,5 @@ invariant-loop-live g l = record {
   during : g.D.Disk.tells → ChangesBy Same (g.D.Disk.content l.fn.disk) (g.D.Disk.content l.disk);
   seen : g.D.Disk.tells → (g.D.Disk.content l.disk).seen ≡ (g.D.Disk.content l.fn.disk).seen;
   held : g.D.Disk.tells → IsHeld l.scan.piece.from l.scan.piece.bytes.items (g.D.Disk.content l.fn.disk).seen;
-  read : g.D.Disk.tells → (parts : List (List Record)) × AreRead l.settings.segment (g.D.Disk.content l.fn.disk).seen l.segments.items l.scan.next l.scan.found.items parts;
+  read : g.D.Disk.tells → (parts : List (List Written)) × AreRead l.settings.segment (g.D.Disk.content l.fn.disk).seen l.segments.items l.scan.next l.scan.found.items parts;
 }

@@ -1,6 +1,6 @@
 use Rattle.std.proofs.Common.{◌≡◌, ℕ, ◌+◌, ◌≤◌, List, length, sym, ◌∙◌, ap, subst, arith}
 use Rattle.disk_core.specs.Content.{range}
-use Rattle.msg_format.specs.Records.{BeginsWith, record_text}
+use Rattle.msg_format.specs.Records.{BeginsWith}
 use Rattle.part_log.proofs.Scanning.{same_twice}
 use Rattle.part_log.proofs.Wholes.{begins_short, head_found, head_inside, size_found}
 use Rattle.part_log.proofs.reading_at.read_record.Goals as goal
@@ -30,8 +30,8 @@ returns-then-head-len-clause-only g c = λ t entry begins.
     let inside : place + left ≤ length seen = omega (arith, g.met.D.Disk.whole c.args.disk.now t, c.requires.inside) in
     let front_is : c.deref.result.now ≡ range place need seen = c.deref.ensures.value ∙ c.in_ok-front.ensures.bytes t in
     let size = size_found place need left seen c.deref.result.now c.decode_head.result within inside front_is c.decode_head.ensures.only entry c.in-Some.head c.in-Some.is begins in
-    let fits : length (record_text entry) ≤ need = omega (arith, size, c.if-head-len.true, c.len.ensures, front.ok, c.in_ok-front.ensures.length) in
-    let here = begins_short place left need seen entry within fits inside begins in
+    let fits : length begins.text ≤ need = omega (arith, size, c.if-head-len.true, c.len.ensures, front.ok, c.in_ok-front.ensures.length) in
+    let here = begins_short place left need seen entry within begins fits in
     c.in_ok-record_of.ensures.only entry (subst (λ (l : List ℕ). BeginsWith l entry) (sym (c.deref-then-head-len.ensures.value ∙ c.in_ok-front.ensures.bytes t)) here)
 
 pub read_bytes-requires-2-clause-inside : goal.read_bytes-requires-2-clause-inside
@@ -70,6 +70,6 @@ returns-clause-only g c = λ t entry begins.
     let size = size_found place need left seen c.deref.result.now c.decode_head.result within inside front_is c.decode_head.ensures.only entry c.in-Some.head c.in-Some.is begins in
     let long : length c.deref.result.now ≤ left = omega (arith, ap (λ (l : List ℕ). length l) c.deref.ensures.value, c.in_ok-front.ensures.length, within) in
     let small = head_inside left c.deref.result.now c.in-Some.head long c.in-Some.ensures.found in
-    let here = begins_short place left c.in-Some.head.len seen entry small (omega (arith, size)) inside begins in
+    let here = begins_short place left c.in-Some.head.len seen entry small begins (omega (arith, size)) in
     let bytes_are : c.deref-3.result.now ≡ range place c.in-Some.head.len seen = c.deref-3.ensures.value ∙ c.in_ok-bytes.ensures.bytes t ∙ ap (range place c.in-Some.head.len) (c.read_bytes.ensures.seen t) in
     c.in_ok-record_of-2.ensures.only entry (subst (λ (l : List ℕ). BeginsWith l entry) (sym bytes_are) here)

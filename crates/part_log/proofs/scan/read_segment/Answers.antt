@@ -42,7 +42,7 @@ loop-size-preserved g c =
           let on = subst (λ (o : Option ℕ). IfSome o (λ n. g.D.Disk.tells → ReadsOn (range (c.args.start + c.from.result) left (g.D.Disk.content c.loop-size.disk).seen) (c.args.start + c.from.result) scan.next scan.found.items n after.next after.found.items)) c.in-Some.is c.in_ok-size.ensures.read t in
           let at_used = subst (λ (k : ℕ). ReadsOn (range (c.args.start + k) left (g.D.Disk.content c.loop-size.disk).seen) (c.args.start + k) scan.next scan.found.items c.in-Some.size after.next after.found.items) c.from.ensures on in
           let there = subst (λ (l : List ℕ). ReadsOn (range (c.args.start + c.loop-size.used) left l) (c.args.start + c.loop-size.used) scan.next scan.found.items c.in-Some.size after.next after.found.items) (inv.seen t) at_used in (
-            read.0 ++ there.entry ∷ [],
+            read.0 ++ record { entry = there.entry; text = there.begins.text } ∷ [],
             read_more c.args.start c.args.segment c.args.scan.now.next c.args.scan.now.found.items seen c.loop-size.used scan.next scan.found.items read.0 inv.used read.1 c.in-Some.size after.next after.found.items there bounds.1,
           );
     }

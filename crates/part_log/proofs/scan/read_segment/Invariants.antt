@@ -1,6 +1,6 @@
 use Rattle.std.proofs.Common.{◌≡◌, ◌≤◌, ◌-◌, ◌^◌, List}
 use Rattle.disk_core.specs.Content.{ChangesBy, Same}
-use Rattle.msg_format.specs.declared.record.Record.{Record}
+use Rattle.part_log.specs.Records.{Written}
 use Rattle.part_log.specs.Scan.{IsHeld, IsRead}
 use Rattle.part_log.proofs.scan.read_segment.Given as goal
 
@@ -13,7 +13,7 @@ invariant-loop-size g l = record {
   during : g.D.Disk.tells → ChangesBy Same (g.D.Disk.content l.fn.disk) (g.D.Disk.content l.disk);
   seen : g.D.Disk.tells → (g.D.Disk.content l.disk).seen ≡ (g.D.Disk.content l.fn.disk).seen;
   held : g.D.Disk.tells → IsHeld l.scan.piece.from l.scan.piece.bytes.items (g.D.Disk.content l.fn.disk).seen;
-  read : g.D.Disk.tells → (records : List Record) × IsRead l.start l.fn.scan.next l.fn.scan.found.items (g.D.Disk.content l.fn.disk).seen l.used l.scan.next l.scan.found.items records;
+  read : g.D.Disk.tells → (written : List Written) × IsRead l.start l.fn.scan.next l.fn.scan.found.items (g.D.Disk.content l.fn.disk).seen l.used l.scan.next l.scan.found.items written;
 }
 
 abbrev pub decreases-loop-size : goal.decreases-loop-size

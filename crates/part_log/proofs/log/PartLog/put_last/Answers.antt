@@ -3,7 +3,7 @@ use Rattle.disk_core.specs.Content.{ChangesBy, Torn}
 use Rattle.gate_slots.specs.Gate.{OpensGate, IsShut}
 use Rattle.msg_format.specs.Records.{record_size}
 use Rattle.part_log.specs.declared.segment.SegmentInfo.{SegmentInfo}
-use Rattle.part_log.specs.Records.{Placed}
+use Rattle.part_log.specs.Records.{Placed, placed_at}
 use Rattle.part_log.specs.Segments.{place_of, last_segment, last_used, with_more}
 use Rattle.part_log.specs.Log.{LogState, LogTable, IsTable, IsLog, Follows, layout_of, next_place}
 use Rattle.part_log.proofs.Layouts.{grown_layout}
@@ -42,15 +42,15 @@ invariant_of-self g c =
     let whole : (t : g.D.Disk.tells) → length (g.D.Disk.content s.disk).seen ≡ place_of s.settings.segment s.settings.segments = λ t. g.met.D.Disk.whole s.disk t ∙ c.self.invariant.1 in
     let grown_is : c.grow_last.new.segments.items ≡ with_more s.segments.items (record_size c.args.entry.now) = c.grow_last.ensures ∙ ap (λ (n : ℕ). with_more s.segments.items n) c.record_size.ensures in
     let put : (t : g.D.Disk.tells) → (placed : List Placed) → IsLog table (g.D.Disk.content s.disk) placed
-    → IsLog (record { settings = s.settings; segments = c.grow_last.new.segments.items; next_generation = s.next_generation; end = s.end + 1; slots = s.slots }) (g.D.Disk.content c.write_gated.new.disk) (placed ++ record { entry = c.args.entry.now; place = c.next_place-place.result } ∷ []) = λ t placed log.
-    subst (λ (k : ℕ). IsLog (record { settings = s.settings; segments = c.grow_last.new.segments.items; next_generation = s.next_generation; end = s.end + 1; slots = s.slots }) (g.D.Disk.content c.write_gated.new.disk) (placed ++ record { entry = c.args.entry.now; place = k } ∷ [])) (sym place_is)
-    (subst (λ (l : List SegmentInfo). IsLog (record { settings = s.settings; segments = l; next_generation = s.next_generation; end = s.end + 1; slots = s.slots }) (g.D.Disk.content c.write_gated.new.disk) (placed ++ record { entry = c.args.entry.now; place = next_place table } ∷ [])) (sym grown_is)
+    → IsLog (record { settings = s.settings; segments = c.grow_last.new.segments.items; next_generation = s.next_generation; end = s.end + 1; slots = s.slots }) (g.D.Disk.content c.write_gated.new.disk) (placed ++ placed_at c.args.entry.now c.next_place-place.result ∷ []) = λ t placed log.
+    subst (λ (k : ℕ). IsLog (record { settings = s.settings; segments = c.grow_last.new.segments.items; next_generation = s.next_generation; end = s.end + 1; slots = s.slots }) (g.D.Disk.content c.write_gated.new.disk) (placed ++ placed_at c.args.entry.now k ∷ [])) (sym place_is)
+    (subst (λ (l : List SegmentInfo). IsLog (record { settings = s.settings; segments = l; next_generation = s.next_generation; end = s.end + 1; slots = s.slots }) (g.D.Disk.content c.write_gated.new.disk) (placed ++ placed_at c.args.entry.now (next_place table) ∷ [])) (sym grown_is)
     (put_log table c.self.invariant.0 c.args.entry.now c.args.rest.now follows room (g.D.Disk.content s.disk) (g.D.Disk.content c.write_gated.new.disk) placed log (whole t) (opens t)
     (subst (λ (k : ℕ). get_or (g.D.Disk.content c.write_gated.new.disk).seen k 0 ≡ 79) place_is (c.in-Ok.ensures.opened t)) (c.in-Ok.ensures.only t))) in
     let below = subst (λ (v : LogState g.row.D.Denot). v.table.end < 2 ^ 62) (sym c.self.view_is) c.requires.below in (
       subst (λ (l : List SegmentInfo). IsTable (record { settings = s.settings; segments = l; next_generation = s.next_generation; end = s.end + 1; slots = s.slots })) (sym grown_is) (put_table table c.self.invariant.0 c.args.entry.now c.args.rest.now follows room below),
       c.write_gated.ensures.size ∙ c.self.invariant.1,
-      λ t up. let standing = c.self.invariant.2 t up in (standing.0 ++ record { entry = c.args.entry.now; place = c.next_place-place.result } ∷ [], put t standing.0 standing.1),
+      λ t up. let standing = c.self.invariant.2 t up in (standing.0 ++ placed_at c.args.entry.now c.next_place-place.result ∷ [], put t standing.0 standing.1),
     )
 
 pub returns-in-Ok-clause-during : goal.returns-in-Ok-clause-during
@@ -104,9 +104,9 @@ returns-in-Ok-clause-put g c =
     let whole : (t : g.D.Disk.tells) → length (g.D.Disk.content s.disk).seen ≡ place_of s.settings.segment s.settings.segments = λ t. g.met.D.Disk.whole s.disk t ∙ c.self.invariant.1 in
     let grown_is : c.grow_last.new.segments.items ≡ with_more s.segments.items (record_size c.args.entry.now) = c.grow_last.ensures ∙ ap (λ (n : ℕ). with_more s.segments.items n) c.record_size.ensures in
     let put : (t : g.D.Disk.tells) → (placed : List Placed) → IsLog table (g.D.Disk.content s.disk) placed
-    → IsLog (record { settings = s.settings; segments = c.grow_last.new.segments.items; next_generation = s.next_generation; end = s.end + 1; slots = s.slots }) (g.D.Disk.content c.write_gated.new.disk) (placed ++ record { entry = c.args.entry.now; place = c.next_place-place.result } ∷ []) = λ t placed log.
-    subst (λ (k : ℕ). IsLog (record { settings = s.settings; segments = c.grow_last.new.segments.items; next_generation = s.next_generation; end = s.end + 1; slots = s.slots }) (g.D.Disk.content c.write_gated.new.disk) (placed ++ record { entry = c.args.entry.now; place = k } ∷ [])) (sym place_is)
-    (subst (λ (l : List SegmentInfo). IsLog (record { settings = s.settings; segments = l; next_generation = s.next_generation; end = s.end + 1; slots = s.slots }) (g.D.Disk.content c.write_gated.new.disk) (placed ++ record { entry = c.args.entry.now; place = next_place table } ∷ [])) (sym grown_is)
+    → IsLog (record { settings = s.settings; segments = c.grow_last.new.segments.items; next_generation = s.next_generation; end = s.end + 1; slots = s.slots }) (g.D.Disk.content c.write_gated.new.disk) (placed ++ placed_at c.args.entry.now c.next_place-place.result ∷ []) = λ t placed log.
+    subst (λ (k : ℕ). IsLog (record { settings = s.settings; segments = c.grow_last.new.segments.items; next_generation = s.next_generation; end = s.end + 1; slots = s.slots }) (g.D.Disk.content c.write_gated.new.disk) (placed ++ placed_at c.args.entry.now k ∷ [])) (sym place_is)
+    (subst (λ (l : List SegmentInfo). IsLog (record { settings = s.settings; segments = l; next_generation = s.next_generation; end = s.end + 1; slots = s.slots }) (g.D.Disk.content c.write_gated.new.disk) (placed ++ placed_at c.args.entry.now (next_place table) ∷ [])) (sym grown_is)
     (put_log table c.self.invariant.0 c.args.entry.now c.args.rest.now follows room (g.D.Disk.content s.disk) (g.D.Disk.content c.write_gated.new.disk) placed log (whole t) (opens t)
     (subst (λ (k : ℕ). get_or (g.D.Disk.content c.write_gated.new.disk).seen k 0 ≡ 79) place_is (c.in-Ok.ensures.opened t)) (c.in-Ok.ensures.only t))) in
     rw (← c.self.view_is) put

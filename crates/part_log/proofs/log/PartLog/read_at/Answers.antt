@@ -35,7 +35,7 @@ returns-in-Ok-clause-read g c =
     let good : IsTable table = c.self.invariant.0 in
     let old = g.D.Disk.content s.disk in
     let new = g.D.Disk.content c.read_placed.new.disk in
-    rw (← c.self.view_is) (λ t placed log entry there. c.in-Ok.ensures.read t entry (visible table old placed (record { entry = entry; place = c.args.place }) good log there))
+    rw (← c.self.view_is) (λ t placed log entry there. c.in-Ok.ensures.read t entry there.0 (visible table old placed (record { entry = entry; text = there.0; place = c.args.place }) good log there.1))
 
 pub returns-in-Ok-clause-kept : goal.returns-in-Ok-clause-kept
 returns-in-Ok-clause-kept g c =
@@ -75,5 +75,5 @@ returns-in-Err-Failed-clause-failed g c =
     let rose : g.D.Disk.tells → Rose (g.D.Disk.faults s.disk) (g.D.Disk.faults c.read_placed.new.disk) = λ t.
     let here = has t c.if-self.false in
     let failed = rw c.in-Err-Failed.field-0-is at c.in-Err-Failed.ensures.failed in
-    failed refl t here.entry (visible table old here.placed (record { entry = here.entry; place = c.args.place }) good here.log here.there) in
+    failed refl t here.entry here.there.0 (visible table old here.placed (record { entry = here.entry; text = here.there.0; place = c.args.place }) good here.log here.there.1) in
     rw (← c.self.view_is) (λ is. (refl, rose))
