@@ -17,10 +17,10 @@ use Rattle.front_end.specs.declared.history.Entry.{Entry}
 use Rattle.front_end.specs.declared.history.Entry.TheVariants.{Mark, Bad, Failed}
 use Rattle.front_end.specs.History.{Moment, start, after_all, MayCome, IsOver, draws_one, without, DrawsNext, newest_first}
 use Rattle.front_end.specs.Script.{Asked, asked_by, with_tag, command_of}
-use Rattle.front_end.specs.Past.{marks_of, is_later, is_to_node, is_wait, IsBad, IsOwn, EndsWhileWaiting}
+use Rattle.front_end.specs.Past.{has_bad, marks_of, is_later, is_to_node, is_wait, IsBad, IsOwn, EndsWhileWaiting}
 use Rattle.front_end.specs.Transcript.{entry_line, transcript_of}
 use Rattle.front_end.specs.Kept.{IsNumbered, IsPast, IsKept, IsWithin}
-use Rattle.front_end.specs.Session.{State, entries_of, history_of, transcript_so_far, live_numbers, has_bad, HasCarriedOut, StandsAt, Adds, IsEnding, end_of, finished_by, ending_of, begun_by, drawn_by, waited_by, refused_by, settled_by, busy_by, put_of}
+use Rattle.front_end.specs.Session.{State, entries_of, history_of, transcript_so_far, live_numbers, HasCarriedOut, StandsAt, Adds, IsEnding, end_of, finished_by, ending_of, begun_by, drawn_by, waited_by, refused_by, settled_by, busy_by, put_of}
 use Rattle.front_end.proofs.TimeLemmas.{weaken, time_begin, time_more, time_end, time_wait}
 use Rattle.front_end.proofs.PastLemmas.{all_append, marks_of-append}
 use Rattle.front_end.proofs.StepLemmas.{past_later, past_own, past_skip, past_wait, marks_with, marks_with_bad, marks_with_failed, moment_with, ordered_with}

@@ -12,11 +12,10 @@ use Rattle.world_model.specs.declared.order.Order.{Order}
 use Rattle.front_end.specs.declared.history.Entry.{Entry}
 use Rattle.front_end.specs.declared.history.Entry.TheVariants.{Mark, Bad, Failed}
 use Rattle.front_end.specs.History.{Moment, start, after, after_all, MayCome, IsOrdered, with_first_end}
-use Rattle.front_end.specs.Past.{answer_after, answer_along}
+use Rattle.front_end.specs.Past.{has_bad, answer_after, answer_along}
 use Rattle.front_end.specs.Script.{name_of, name_or_none}
 use Rattle.front_end.specs.Transcript.{entry_line, transcript_of}
 use Rattle.front_end.specs.Kept.{IsNumbered, IsWithin}
-use Rattle.front_end.specs.Session.{has_bad}
 
 -- an answer behind one more entry
 pub answer_with_last : (before : Option (List ℕ)) (es : List Entry) (e : Entry) (n : ℕ) → answer_along before (es ++ e ∷ []) n ≡ answer_after (answer_along before es n) e n

@@ -20,6 +20,13 @@ marks_of (Mark mark ∷ entries) = mark ∷ marks_of entries
 marks_of (Bad number ∷ entries) = marks_of entries
 marks_of (Failed order ∷ entries) = marks_of entries
 
+-- a line was bad
+abbrev pub has_bad : List Entry → Bool
+has_bad [] = false
+has_bad (Mark mark ∷ entries) = has_bad entries
+has_bad (Bad number ∷ entries) = true
+has_bad (Failed order ∷ entries) = has_bad entries
+
 -- the answer that an outcome gives: a put's id
 abbrev pub answer_in : Outcome → Option (List ℕ)
 answer_in (Outcome.Put id) = Some id

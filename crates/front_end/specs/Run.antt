@@ -24,10 +24,9 @@ use Rattle.world_model.specs.World.{Cells, Run}
 use Rattle.front_end.specs.Disks.{Disks, LeavesLater}
 use Rattle.front_end.specs.History.{start, after_all, IsOrdered, DrawsInOrder, newest_first}
 use Rattle.front_end.specs.Script.{asked, tags_after, command_of, OnlyLastEnds}
-use Rattle.front_end.specs.Past.{marks_of, Follows, WaitsStandFirst, EndsWhileWaiting}
+use Rattle.front_end.specs.Past.{marks_of, has_bad, Follows, WaitsStandFirst, EndsWhileWaiting}
 use Rattle.front_end.specs.Transcript.{refusal_line, transcript_of}
 use Rattle.front_end.specs.Lines.{HasNoEnd, BeginsWith}
-use Rattle.front_end.specs.Session.{has_bad}
 
 -- A past is that of these script lines over so many nodes, and it is in order. One operation is open at a time.
 pub record IsPastOf (nodes : ℕ) (over : Bool) (lines : List (List ℕ)) (entries : List Entry) : Type 0 where

@@ -22,7 +22,7 @@ use Rattle.front_end.specs.History.{DrawsNext, IsOver, after_all, start}
 use Rattle.front_end.specs.declared.script.Command.TheVariants as command
 use Rattle.front_end.specs.declared.script.Target.{Target}
 use Rattle.front_end.specs.Script.{command_of}
-use Rattle.front_end.specs.Past.{marks_of, answer_of, EndsWhileWaiting}
+use Rattle.front_end.specs.Past.{marks_of, has_bad, answer_of, EndsWhileWaiting}
 use Rattle.front_end.specs.Transcript.{entry_line, transcript_of}
 use Rattle.front_end.specs.Outline.{outline_entry}
 use Rattle.front_end.specs.Kept.{IsPast, IsKept}
@@ -89,12 +89,6 @@ pub record IsReady (s : Session) : Type 0 where
 -- what ties a router's calls on a network to the marks of a history
 abbrev pub ties_of : RouterView → Option (List Called) → List HistoryMark → Type 0
 ties_of router told marks = Ties (Stands router) told marks
-
-abbrev pub has_bad : List Entry → Bool
-has_bad [] = false
-has_bad (Mark mark ∷ entries) = has_bad entries
-has_bad (Bad number ∷ entries) = true
-has_bad (Failed order ∷ entries) = has_bad entries
 
 -- The script lines were carried out, on a cluster of this shape, with these random words to come at first and now.
 pub record HasCarriedOut (shape : Shape) (lines : List (List ℕ)) (s : State) (tie : List HistoryMark → Type 0) (first now : Option (ℕ → ℕ)) : Type 0 where

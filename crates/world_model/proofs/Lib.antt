@@ -18,10 +18,3 @@ pub mod ReadLaws
 pub mod ContentLaws
 pub mod LicenseLaws
 pub mod SafeLaws
-pub mod ExampleTests
-pub mod ExampleDrain
-pub mod ExampleCancel
-pub mod ExampleRetry
-pub mod ExampleMerge
-pub mod ExampleFind
-pub mod ExampleChunks

@@ -18,7 +18,7 @@ abbrev pub all_pass : {A : Type 0} → (A → Bool) → List A → Bool
 all_pass p [] = true
 all_pass p (x ∷ xs) = p x && all_pass p xs
 
-all_has : {A : Type 0} (p : A → Bool) (xs : List A) (x : A) → all_pass p xs ≡ true → Has xs x → p x ≡ true
+pub all_has : {A : Type 0} (p : A → Bool) (xs : List A) (x : A) → all_pass p xs ≡ true → Has xs x → p x ≡ true
 all_has p [] x t h = absurd h
 all_has p (y ∷ ys) x t h = elim h [
   | inl e ↦ ap p e ∙ and_left _ _ t
@@ -100,7 +100,3 @@ ordered (item ∷ rest) at operation before a other how then e g = elim e [
       b.1 g)
   | inr t ↦ ordered rest at operation before (rest_ordered item rest at operation before a) other how then t g
 ]
-
--- none goes before itself
-pub not_itself : (at : Record) (operation : ℕ) → GoesFirst at operation at operation → ⊥
-not_itself at operation g = elim g [ inl l ↦ omega arith | inr l ↦ omega (arith, l.1) ]

@@ -1,0 +1,7 @@
+mod TestLemmas
+mod Searches
+mod RunSearch
+mod RouterSearch
+mod OrderSearch
+mod OpeningSearch
+mod ExampleSearch

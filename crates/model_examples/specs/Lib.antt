@@ -1,0 +1,10 @@
+pub mod Openings
+pub mod Examples
+pub mod Words
+pub mod Chunks
+pub mod Delete
+pub mod Retry
+pub mod Cancel
+pub mod Drain
+pub mod Merge
+pub mod Find
