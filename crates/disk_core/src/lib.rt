@@ -1,4 +1,37 @@
-//! A disk: bytes at places, and what a crash may leave of them.
+//! Disks, and what a crash may leave of them.
+//!
+//! # Values
+//!
+//! A disk is the bytes that reads give together with the images that a crash may leave (`Content`), where it tells them, its
+//! size, and a count of faults that only its own failing calls raise. Bays are disks by folder, node and partition: at home, or
+//! out.
+//!
+//! # Public calls
+//!
+//! - The trait `Disk`: `size`, `read`, `write`, `sync`, and `stopped`, which is what a stop of the machine does. `write_synced`
+//!   joins a write and a sync.
+//! - The trait `Bays`: `open` hands a disk out, a new one of zeros where there is none, and `give_back` puts it home as it is.
+//! - `MemDisk` and `MemBays` lie in memory and tell their content; a `Pick` says what a stop leaves, and calls can be listed to
+//!   fail. `FuseDisk` and `FuseBays` pass some calls of another disk, and then fail until it is stopped. `FileDisk` and
+//!   `FileBays` are files.
+//!
+//! # Proved
+//!
+//! - Of a disk that tells: a write changes nothing outside of its range, even where it fails; a sync that succeeds leaves one
+//!   image; a stop leaves one of the images (`told` of each call). `MemDisk` says which image each pick leaves (`left`).
+//! - A call that fails raised the count (`cause`); `MemDisk::read` and `sync` fail exactly in the listed calls (`exact`), and a
+//!   write besides for want of memory, which changes nothing (`unlisted`).
+//! - Bays that tell hand out the disk that was put home, or a new one, and refuse another size or a disk that is out (`taken`,
+//!   `other_size`, `is_out`); where they refuse, nothing changes (`refused`).
+//!
+//! # Tested
+//!
+//! What each pick leaves; a write that is listed to fail; that the write which blows a fuse reaches the disk below; each kind
+//! of bays once, files among them.
+//!
+//! # Trusted
+//!
+//! That a file keeps the model of a disk. Files tell nothing.
 #![tactic(auto)]
 
 mod bays;
