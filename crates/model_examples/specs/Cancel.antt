@@ -1,5 +1,6 @@
 -- A get of a chunk is refused, and a put is cancelled, whose end stands while the get has none. The put gives its id up behind its end.
-use Rattle.model_examples.specs.Words.{[], ◌∷◌, Some, None, Blob, BlobId, Outcome, Body, Frame, frame_text, Begun, Begin, End, Cancel, Wait, Shape, Send, Top, Marked, Drawn, Aimed, Took, Decided, Record, shape_of, id_of, blob_of, request, frame_of}
+use Rattle.std.specs.Prelude.{[], ◌∷◌, Some, None}
+use Rattle.model_examples.specs.Words.{Blob, BlobId, Outcome, Body, Frame, frame_text, Begun, Begin, End, Cancel, Wait, Shape, Send, Top, Marked, Drawn, Aimed, Took, Decided, Record, shape_of, id_of, blob_of, request, frame_of}
 
 abbrev pub shape : Shape
 shape = shape_of 1 1 1 1 1 1

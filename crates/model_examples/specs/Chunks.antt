@@ -1,5 +1,6 @@
 -- A blob of two chunks is put, and then two bytes across its chunks are read.
-use Rattle.model_examples.specs.Words.{ℕ, List, [], ◌∷◌, take, drop, Some, None, Blob, BlobId, Reply, Outcome, Body, Frame, frame_text, Begun, Begin, End, Wait, Shape, Event, Send, Exec, Hand, Metadata, spell_metadata, Top, Chunk, Marked, Drawn, Aimed, Took, Given, Decided, Record, shape_of, id_of, blob_of, request, frame_of}
+use Rattle.std.specs.Prelude.{ℕ, List, [], ◌∷◌, take, drop, Some, None}
+use Rattle.model_examples.specs.Words.{Blob, BlobId, Reply, Outcome, Body, Frame, frame_text, Begun, Begin, End, Wait, Shape, Event, Send, Exec, Hand, Metadata, spell_metadata, Top, Chunk, Marked, Drawn, Aimed, Took, Given, Decided, Record, shape_of, id_of, blob_of, request, frame_of}
 
 abbrev pub shape : Shape
 shape = shape_of 1 1 1 1 1 1

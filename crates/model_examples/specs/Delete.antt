@@ -1,5 +1,6 @@
 -- A blob is put and deleted, and a get of it then ends as deleted.
-use Rattle.model_examples.specs.Words.{[], ◌∷◌, Some, None, Blob, BlobId, Reply, Outcome, Body, Frame, frame_text, Begun, Begin, End, Wait, Shape, Event, Send, Exec, Hand, Top, Marked, Drawn, Aimed, Took, Given, Decided, Record, shape_of, id_of, blob_of, request, frame_of}
+use Rattle.std.specs.Prelude.{[], ◌∷◌, Some, None}
+use Rattle.model_examples.specs.Words.{Blob, BlobId, Reply, Outcome, Body, Frame, frame_text, Begun, Begin, End, Wait, Shape, Event, Send, Exec, Hand, Top, Marked, Drawn, Aimed, Took, Given, Decided, Record, shape_of, id_of, blob_of, request, frame_of}
 
 abbrev pub shape : Shape
 shape = shape_of 1 1 1 1 1 1

@@ -1,5 +1,6 @@
 -- A get is withheld, since its node is drained, and a second one breaks with the connection.
-use Rattle.model_examples.specs.Words.{true, false, [], ◌∷◌, Some, None, BlobId, Cause, Outcome, Body, Frame, frame_text, Begun, Begin, End, Drain, Wait, Shape, Event, Send, Cut, Top, Marked, Aimed, Took, Given, Withheld, Decided, Record, shape_of, id_of, request, frame_of}
+use Rattle.std.specs.Prelude.{true, false, [], ◌∷◌, Some, None}
+use Rattle.model_examples.specs.Words.{BlobId, Cause, Outcome, Body, Frame, frame_text, Begun, Begin, End, Drain, Wait, Shape, Event, Send, Cut, Top, Marked, Aimed, Took, Given, Withheld, Decided, Record, shape_of, id_of, request, frame_of}
 
 abbrev pub shape : Shape
 shape = shape_of 1 1 1 1 1 1

@@ -1,6 +1,7 @@
 -- A node asks another one what it hasn't seen, and merges the entry of the page that is gone. The entry that is held there carries nothing.
 use Rattle.model_examples.specs.Openings.{Holding}
-use Rattle.model_examples.specs.Words.{true, false, List, [], ◌∷◌, Some, Blob, BlobId, Reply, Cell, Page, FindToken, Body, Frame, frame_text, Answered, Shape, Send, Exec, Hand, Merge, Took, Record, shape_of, id_of, blob_of, pull, frame_of}
+use Rattle.std.specs.Prelude.{true, false, List, [], ◌∷◌, Some}
+use Rattle.model_examples.specs.Words.{Blob, BlobId, Reply, Cell, Page, FindToken, Body, Frame, frame_text, Answered, Shape, Send, Exec, Hand, Merge, Took, Record, shape_of, id_of, blob_of, pull, frame_of}
 
 abbrev pub shape : Shape
 shape = shape_of 2 2 1 1 2 1

@@ -1,5 +1,6 @@
 -- A put is in doubt at its second node, which is stopped and loses it, and then fetches the blob and merges it; once more in doubt, the next restart has it.
-use Rattle.model_examples.specs.Words.{ℕ, true, List, [], ◌∷◌, None, Blob, BlobId, Reply, Outcome, Body, Frame, frame_text, Begun, Begin, End, Wait, Shape, Event, Send, Exec, Torn, Hand, Stop, Restart, Merge, Top, Marked, Drawn, Aimed, Took, Given, Decided, Record, shape_of, id_of, blob_of, request, pull, frame_of}
+use Rattle.std.specs.Prelude.{ℕ, true, List, [], ◌∷◌, None}
+use Rattle.model_examples.specs.Words.{Blob, BlobId, Reply, Outcome, Body, Frame, frame_text, Begun, Begin, End, Wait, Shape, Event, Send, Exec, Torn, Hand, Stop, Restart, Merge, Top, Marked, Drawn, Aimed, Took, Given, Decided, Record, shape_of, id_of, blob_of, request, pull, frame_of}
 
 abbrev pub shape : Shape
 shape = shape_of 2 2 1 1 2 2

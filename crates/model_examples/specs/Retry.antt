@@ -1,5 +1,6 @@
 -- A put finds its first node stopped, gives its first id up, and is stored by its second attempt.
-use Rattle.model_examples.specs.Words.{ℕ, List, [], ◌∷◌, None, Blob, BlobId, Reply, Outcome, Body, Frame, frame_text, Begun, Begin, End, Wait, Shape, Event, Send, Refused, Exec, Hand, Stop, Top, Marked, Drawn, Aimed, Took, Given, Decided, Record, shape_of, id_of, blob_of, request, frame_of}
+use Rattle.std.specs.Prelude.{ℕ, List, [], ◌∷◌, None}
+use Rattle.model_examples.specs.Words.{Blob, BlobId, Reply, Outcome, Body, Frame, frame_text, Begun, Begin, End, Wait, Shape, Event, Send, Refused, Exec, Hand, Stop, Top, Marked, Drawn, Aimed, Took, Given, Decided, Record, shape_of, id_of, blob_of, request, frame_of}
 
 abbrev pub shape : Shape
 shape = shape_of 2 1 2 1 1 1

@@ -1,5 +1,5 @@
 -- The words that the records are written in.
-pub use Rattle.std.specs.Prelude.{ℕ, ◌+◌, ◌*◌, true, false, List, [], ◌∷◌, take, drop, Some, None}
+use Rattle.std.specs.Prelude.{ℕ, ◌+◌, ◌*◌, List, [], ◌∷◌}
 pub use Rattle.blob_id.specs.declared.blob.Blob.{Blob}
 pub use Rattle.blob_id.specs.declared.id.BlobId.{BlobId}
 pub use Rattle.cell_model.specs.declared.ask.Reply.{Reply}
