@@ -1,8 +1,13 @@
-//! Appends records to the log of a new file in the current folder, so that its speed can be measured.
+//! Appends records to the log of a file in the current folder, so that its speed can be measured.
 //!
-//! `log_bench COUNT SIZE` puts COUNT records of SIZE bytes last, each a put of at least 45 bytes, and prints how many it put. A
-//! file that is there already is refused. The file is `n0p0`, a log of two segments of 16,777,216 bytes, and isn't removed.
+//! `log_bench COUNT SIZE` puts COUNT records of SIZE bytes last, each a put of at least 45 bytes, or as many as the log takes, and
+//! prints how many it put. The file is `n0p0` in the current folder. It isn't removed, and one whose log has records is refused.
 //! `bench/log.py` runs it.
+//!
+//! # What it is made of
+//!
+//! `main` reads the two words and opens the file by `disk_core::FileBays`; `append_all` opens its log and appends by
+//! `part_log::PartLog`. All records go into one segment, which is as long as a segment can be.
 //!
 //! # Proved
 //!
