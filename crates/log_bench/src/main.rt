@@ -1,8 +1,8 @@
 //! Appends records to the log of a file in the current folder, so that its speed can be measured.
 //!
-//! `log_bench COUNT SIZE` puts COUNT records of SIZE bytes last, each a put of at least 45 bytes, or as many as the log takes, and
-//! prints how many it put. The file is `n0p0` in the current folder. It isn't removed, and one whose log has records is refused.
-//! `bench/log.py` runs it.
+//! `log_bench COUNT SIZE` puts COUNT records of SIZE bytes last, each a put of at least 45 bytes, and prints how many it put. It
+//! ends with an error where the log takes no more. The file is `n0p0` in the current folder. It isn't removed, and one whose log
+//! has records is refused. `bench/log.py` runs it.
 //!
 //! # What it is made of
 //!
