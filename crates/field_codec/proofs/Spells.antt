@@ -97,20 +97,20 @@ pub made_of_two : {A B V : Type 0} {tA : A → List ℕ} {rA : List ℕ → Opti
     → Spells t (λ bytes. rA bytes >>= λ a. rB a.0 a.1 >>= λ b. Some (make a.0 b.0, b.1)) (λ v. (a : A) × (b : B) × PA a × PB a b × (make a b ≡ v))
 made_of_two {V = V} {tA = tA} {rA = rA} {tB = tB} {rB = rB} t make same f g = record {
   takes = λ bytes v rest fits e.
-    let a = bind_some (rA bytes) (λ a. rB a.0 a.1 >>= λ b. Some (make a.0 b.0, b.1)) (v, rest) e in
-    let b = bind_some (rB a.0.0 a.0.1) (λ b. Some (make a.0.0 b.0, b.1)) (v, rest) a.2 in
-    let u = f.takes bytes a.0.0 a.0.1 fits a.1 in
-    let w = (g a.0.0).takes a.0.1 b.0.0 b.0.1 u.0.rest_fits b.1 in
-    let pair : V × List ℕ = (make a.0.0 b.0.0, b.0.1) in
-    let is = same_Some pair (v, rest) b.2 in
-    let both = Takes-then bytes (tA a.0.0) a.0.1 (tB b.0.0) b.0.1 u.0 w.0 in
-    (subst (λ q. Takes bytes (t q.0) q.1) {x = pair} {y = (v, rest)} is (subst (λ x. Takes bytes x b.0.1) {x = tA a.0.0 ++ tB b.0.0} {y = t (make a.0.0 b.0.0)} (sym (same a.0.0 b.0.0)) both), (a.0.0, b.0.0, u.1, w.1, ap (λ q. q.0) {x = pair} {y = (v, rest)} is));
+      let a = bind_some (rA bytes) (λ a. rB a.0 a.1 >>= λ b. Some (make a.0 b.0, b.1)) (v, rest) e in
+      let b = bind_some (rB a.0.0 a.0.1) (λ b. Some (make a.0.0 b.0, b.1)) (v, rest) a.2 in
+      let u = f.takes bytes a.0.0 a.0.1 fits a.1 in
+      let w = (g a.0.0).takes a.0.1 b.0.0 b.0.1 u.0.rest_fits b.1 in
+      let pair : V × List ℕ = (make a.0.0 b.0.0, b.0.1) in
+      let is = same_Some pair (v, rest) b.2 in
+      let both = Takes-then bytes (tA a.0.0) a.0.1 (tB b.0.0) b.0.1 u.0 w.0 in
+      (subst (λ q. Takes bytes (t q.0) q.1) {x = pair} {y = (v, rest)} is (subst (λ x. Takes bytes x b.0.1) {x = tA a.0.0 ++ tB b.0.0} {y = t (make a.0.0 b.0.0)} (sym (same a.0.0 b.0.0)) both), (a.0.0, b.0.0, u.1, w.1, ap (λ q. q.0) {x = pair} {y = (v, rest)} is));
   again = λ v rest is.
-    let text : t v ++ rest ≡ tA is.0 ++ (tB is.1 ++ rest) = ap (λ x. x ++ rest) (ap t (sym is.4) ∙ same is.0 is.1) ∙ append_assoc (tA is.0) (tB is.1) rest in
-    ap (λ x. rA x >>= λ a. rB a.0 a.1 >>= λ b. Some (make a.0 b.0, b.1)) text
-    ∙ bind_is (rA (tA is.0 ++ (tB is.1 ++ rest))) (λ a. rB a.0 a.1 >>= λ b. Some (make a.0 b.0, b.1)) (is.0, tB is.1 ++ rest) (f.again is.0 (tB is.1 ++ rest) is.2)
-    ∙ bind_is (rB is.0 (tB is.1 ++ rest)) (λ b. Some (make is.0 b.0, b.1)) (is.1, rest) ((g is.0).again is.1 rest is.3)
-    ∙ ap (λ x. found (x, rest)) is.4;
+      let text : t v ++ rest ≡ tA is.0 ++ (tB is.1 ++ rest) = ap (λ x. x ++ rest) (ap t (sym is.4) ∙ same is.0 is.1) ∙ append_assoc (tA is.0) (tB is.1) rest in
+      ap (λ x. rA x >>= λ a. rB a.0 a.1 >>= λ b. Some (make a.0 b.0, b.1)) text
+      ∙ bind_is (rA (tA is.0 ++ (tB is.1 ++ rest))) (λ a. rB a.0 a.1 >>= λ b. Some (make a.0 b.0, b.1)) (is.0, tB is.1 ++ rest) (f.again is.0 (tB is.1 ++ rest) is.2)
+      ∙ bind_is (rB is.0 (tB is.1 ++ rest)) (λ b. Some (make is.0 b.0, b.1)) (is.1, rest) ((g is.0).again is.1 rest is.3)
+      ∙ ap (λ x. found (x, rest)) is.4;
 }
 
 -- the same as made_of, written by option_map
