@@ -9,3 +9,6 @@ pub mod Homes
 pub mod Places
 pub mod MemBays
 pub mod FuseBays
+pub mod DirtyRange
+pub mod FileDisk
+pub mod FileBays

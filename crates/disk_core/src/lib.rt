@@ -35,12 +35,16 @@
 #![tactic(auto)]
 
 mod bays;
+mod dirty_range;
 mod disk;
 mod failing;
 mod file_bays;
 mod file_disk;
+mod file_fault;
+mod file_folder;
 mod fuse_bays;
 mod fuse_disk;
+mod host_file;
 mod mem_bays;
 mod mem_disk;
 mod places;
@@ -51,8 +55,10 @@ pub use bays::{BayFault, Bays};
 pub use disk::Disk;
 pub use file_bays::FileBays;
 pub use file_disk::FileDisk;
+pub use file_fault::FileFault;
 pub use fuse_bays::FuseBays;
 pub use fuse_disk::{Fuse, FuseDisk};
+pub use host_file::Lockable;
 pub use mem_bays::MemBays;
 pub use mem_disk::MemDisk;
 pub use synced::write_synced;

@@ -1,7 +1,10 @@
 ghost use Rattle.std.specs.Prelude.{◌≡◌, IsSome};
 ghost use Rattle.outside.specs.Causes.{Rose};
 
+mod host;
+
 use super::*;
+use host::{Failing, Host, HostFile};
 use outside::Failed;
 use std::alloc::Global;
 use std::fs;
@@ -166,5 +169,71 @@ fn a_disk_in_a_file_is_kept(rt: HostRuntime) -> Result<(), Fail> {
     assert_kept(&rt, &mut bays, "disk_core_test_folder/inner", Ok(()));
     assert!(rt; fs::exists(&rt, "disk_core_test_folder/inner/n1p2")?);
     fs::remove_dir_all(&rt, "disk_core_test_folder")?;
+    Ok(())
+}
+
+// No call fails.
+const NEVER: Failing = Failing { from: 0, to: 0, error: 5 };
+
+// The calls since the last time are these.
+fn assert_calls(rt: &impl Abort, host: &Host, expected: &[&str]) -> Result<(), Fail> {
+    let calls = host.take_calls()?;
+    assert_eq!(rt; calls.len(), expected.len(), "the number of calls");
+    for (call, line) in calls.iter().zip(expected.iter()) {
+        assert_eq!(rt; call.as_str(), *line);
+    }
+    Ok(())
+}
+
+// The disk of a node and a partition of 100,000 bytes.
+fn open_at(rt: &impl Abort, bays: &mut FileBays<&Host>, node: u32, partition: u32) -> FileDisk<HostFile> {
+    match bays.open("a/b", node, partition, 100_000) {
+        Ok(disk) => disk,
+        Err(fault) => panic!(rt; "no disk: {fault}"),
+    }
+}
+
+#[test]
+fn files_are_made_and_opened_by_these_calls(rt: HostRuntime) -> Result<(), Fail> {
+    let host = Host::new(rt.alloc(), 65_536, NEVER)?;
+    let mut bays = FileBays::new(rt.alloc(), &host);
+    let mut disk = open_at(&rt, &mut bays, 1, 2);
+    // each new name is synced, the one of the disk's file only once its bytes are
+    assert_calls(&rt, &host, &[
+        "open a/b/lock",
+        "mkdir a",
+        "open .",
+        "fsync .",
+        "mkdir a/b",
+        "open a",
+        "fsync a",
+        "create a/b/lock",
+        "flock a/b/lock",
+        "open a/b/n1p2",
+        "create a/b/n1p2.new",
+        "pwrite a/b/n1p2.new",
+        "pwrite a/b/n1p2.new",
+        "fsync a/b/n1p2.new",
+        "rename a/b/n1p2",
+        "open a/b",
+        "fsync a/b",
+    ])?;
+    assert_eq!(rt; write_synced(&mut disk, 4, &[1, 2, 3, 4]), Ok(()));
+    assert_calls(&rt, &host, &["pwrite a/b/n1p2", "fdatasync a/b/n1p2"])?;
+    bays.give_back(1, 2, disk);
+    drop(bays);
+    let mut later = FileBays::new(rt.alloc(), &host);
+    let mut again = open_at(&rt, &mut later, 1, 2);
+    assert_bytes(&rt, &mut again, 4, [1, 2, 3, 4]);
+    assert_calls(&rt, &host, &[
+        "open a/b/lock",
+        "flock a/b/lock",
+        "open a/b/n1p2",
+        "fstat a/b/n1p2",
+        "open a/b",
+        "fsync a/b",
+        "pread a/b/n1p2",
+    ])?;
+    later.give_back(1, 2, again);
     Ok(())
 }
