@@ -1,6 +1,6 @@
 //! What of a file may not have reached its device.
 
-ghost use Rattle.std.specs.Prelude.{◌≡◌};
+ghost use Rattle.std.specs.Prelude.{◌≡◌, ◌≤◌, ◌↔◌, IsTrue};
 ghost use Rattle.disk_core.specs.DirtyRange.{Covers, Grows};
 
 use std::io;
@@ -35,7 +35,9 @@ impl DirtyRange {
         }
     }
 
-    pub fn is_empty(&self) -> bool {
+    pub fn is_empty(&self) -> bool
+        ensures { IsTrue result ↔ (self.now.to ≤ self.now.from) }
+    {
         self.from >= self.to
     }
 

@@ -216,6 +216,17 @@ impl Host {
         Ok(())
     }
 
+    /// Which calls fail from now on, counted since the calls were last taken.
+    pub fn set_failing(&self, failing: Failing) -> io::Result<()> {
+        state_in(&self.state)?.failing = failing;
+        Ok(())
+    }
+
+    /// Whether there is a file of this name.
+    pub fn has(&self, path: &str) -> io::Result<bool> {
+        Ok(state_in(&self.state)?.find(path).is_ok())
+    }
+
     /// The power is cut: what was synced is left.
     pub fn cut_power(&self) -> io::Result<()> {
         let mut state = state_in(&self.state)?;
