@@ -2,6 +2,7 @@
 //!
 //! The script comes from standard input, the transcript goes to standard output, and the exit status tells how the run ended.
 //! The files lie in the folder that the words name, below the current one, and stay for later runs, which take other `--ids`.
+//! Where the status is 5 because a file or its folder failed, one line on standard error says why.
 //! The words, the lines of a script and the statuses are those of `front_end::run_lab`.
 //!
 //! # What it is made of
@@ -21,7 +22,7 @@
 //!
 //! # Trusted
 //!
-//! That a file keeps the model of a disk, and that one process at a time uses a folder.
+//! That a file keeps the model of a disk. A folder is held by a lock, which binds only those that ask for it.
 #![tactic(auto)]
 
 use blob_id::{Memory, Words};
@@ -51,6 +52,12 @@ fn main(rt: HostRuntime) -> ExitCode {
         ),
         Err(Memory) => 6,
     };
+    if status == 5
+        && let Some(fault) = bays.last_fault()
+    {
+        // The status stands, whether or not this can be written.
+        let _ = eprintln!(rt; "ambry_lab: {fault}");
+    }
     ExitCode::from(status)
 }
 

@@ -98,13 +98,7 @@ where
     }
 
     // What of a disk that was handed out before may not have been synced: where it is out still, any of its bytes.
-    fn dirty_of(
-        &self,
-        folder: &str,
-        node: u32,
-        partition: u32,
-        size: u64,
-    ) -> Option<DirtyRange> {
+    fn dirty_of(&self, folder: &str, node: u32, partition: u32, size: u64) -> Option<DirtyRange> {
         let disk = self
             .opened
             .iter()

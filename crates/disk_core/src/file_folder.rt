@@ -27,11 +27,7 @@ pub fn sync_folder<R: Files>(files: &R, folder: &str) -> io::Result<()> {
 
 /// Holds a folder by its file `lock`, as long as the answer is open. Where the folder has none, it is made sure of the
 /// folder's own name first, and of those of its parents, so that this file shows that they are synced.
-pub fn hold_folder<R: Files>(
-    alloc: Global,
-    files: &R,
-    folder: &str,
-) -> Result<R::File, FileRefusal>
+pub fn hold_folder<R: Files>(alloc: Global, files: &R, folder: &str) -> Result<R::File, FileRefusal>
 where
     R::File: Lockable,
 {

@@ -179,7 +179,11 @@ fn a_disk_in_a_file_is_kept(rt: HostRuntime) -> Result<(), Fail> {
 }
 
 // No call fails.
-const NEVER: Failing = Failing { from: 0, to: 0, error: 5 };
+const NEVER: Failing = Failing {
+    from: 0,
+    to: 0,
+    error: 5,
+};
 
 // The calls since the last time are these.
 fn assert_calls(rt: &impl Abort, host: &Host, expected: &[&str]) -> Result<(), Fail> {
@@ -192,7 +196,12 @@ fn assert_calls(rt: &impl Abort, host: &Host, expected: &[&str]) -> Result<(), F
 }
 
 // The disk of a node and a partition of 100,000 bytes.
-fn open_at(rt: &impl Abort, bays: &mut FileBays<&Host>, node: u32, partition: u32) -> FileDisk<HostFile> {
+fn open_at(
+    rt: &impl Abort,
+    bays: &mut FileBays<&Host>,
+    node: u32,
+    partition: u32,
+) -> FileDisk<HostFile> {
     match bays.open("a/b", node, partition, 100_000) {
         Ok(disk) => disk,
         Err(fault) => panic!(rt; "no disk: {fault}"),
@@ -205,58 +214,74 @@ fn files_are_made_and_opened_by_these_calls(rt: HostRuntime) -> Result<(), Fail>
     let mut bays = FileBays::new(rt.alloc(), &host);
     let mut disk = open_at(&rt, &mut bays, 1, 2);
     // each new name is synced, the one of the disk's file only once its bytes are
-    assert_calls(&rt, &host, &[
-        "open a/b/lock",
-        "mkdir a",
-        "open .",
-        "fsync .",
-        "mkdir a/b",
-        "open a",
-        "fsync a",
-        "create a/b/lock",
-        "flock a/b/lock",
-        "open a/b/n1p2",
-        "create a/b/n1p2.new",
-        "pwrite a/b/n1p2.new",
-        "pwrite a/b/n1p2.new",
-        "fsync a/b/n1p2.new",
-        "rename a/b/n1p2",
-        "open a/b",
-        "fsync a/b",
-    ])?;
+    assert_calls(
+        &rt,
+        &host,
+        &[
+            "open a/b/lock",
+            "mkdir a",
+            "open .",
+            "fsync .",
+            "mkdir a/b",
+            "open a",
+            "fsync a",
+            "create a/b/lock",
+            "flock a/b/lock",
+            "open a/b/n1p2",
+            "create a/b/n1p2.new",
+            "pwrite a/b/n1p2.new",
+            "pwrite a/b/n1p2.new",
+            "fsync a/b/n1p2.new",
+            "rename a/b/n1p2",
+            "open a/b",
+            "fsync a/b",
+        ],
+    )?;
     assert_eq!(rt; write_synced(&mut disk, 4, &[1, 2, 3, 4]), Ok(()));
     assert_calls(&rt, &host, &["pwrite a/b/n1p2", "fdatasync a/b/n1p2"])?;
     let other = open_at(&rt, &mut bays, 1, 12);
-    assert_calls(&rt, &host, &[
-        "open a/b/n1p12",
-        "create a/b/n1p12.new",
-        "pwrite a/b/n1p12.new",
-        "pwrite a/b/n1p12.new",
-        "fsync a/b/n1p12.new",
-        "rename a/b/n1p12",
-        "open a/b",
-        "fsync a/b",
-    ])?;
+    assert_calls(
+        &rt,
+        &host,
+        &[
+            "open a/b/n1p12",
+            "create a/b/n1p12.new",
+            "pwrite a/b/n1p12.new",
+            "pwrite a/b/n1p12.new",
+            "fsync a/b/n1p12.new",
+            "rename a/b/n1p12",
+            "open a/b",
+            "fsync a/b",
+        ],
+    )?;
     bays.give_back(1, 12, other);
     bays.give_back(1, 2, disk);
     let mut later = FileBays::new(rt.alloc(), &host);
     let mut again = open_at(&rt, &mut later, 1, 2);
     assert_bytes(&rt, &mut again, 4, [1, 2, 3, 4]);
-    assert_calls(&rt, &host, &[
-        "open a/b/lock",
-        "flock a/b/lock",
-        "open a/b/n1p2",
-        "fstat a/b/n1p2",
-        "open a/b",
-        "fsync a/b",
-        "pread a/b/n1p2",
-    ])?;
+    assert_calls(
+        &rt,
+        &host,
+        &[
+            "open a/b/lock",
+            "flock a/b/lock",
+            "open a/b/n1p2",
+            "fstat a/b/n1p2",
+            "open a/b",
+            "fsync a/b",
+            "pread a/b/n1p2",
+        ],
+    )?;
     later.give_back(1, 2, again);
     Ok(())
 }
 
 // A disk of 8 bytes, opened again where an opening fails, which then says why.
-fn open_at_last(rt: &impl Abort, bays: &mut FileBays<&Host>, reason: FileFault) -> FileDisk<HostFile> {
+fn open_at_last(
+    rt: &impl Abort,
+    bays: &mut FileBays<&Host>,
+    reason: FileFault,
+) -> FileDisk<HostFile> {
     for _ in 0..4 {
         match bays.open("a/b", 1, 2, 8) {
             Ok(disk) => return disk,
@@ -373,7 +398,11 @@ fn calls_on_files_go_on_where_they_are_cut_short(rt: HostRuntime) -> Result<(), 
         let mut bays = FileBays::new(rt.alloc(), &host);
         let mut disk = open_at_last(&rt, &mut bays, FileFault::Device);
         let _opening = host.take_calls()?;
-        host.set_failing(Failing { from: number, to: number, error: 4 })?;
+        host.set_failing(Failing {
+            from: number,
+            to: number,
+            error: 4,
+        })?;
         assert_eq!(rt; disk.size(), 8);
         assert_eq!(rt; write_synced(&mut disk, 4, &[1, 2, 3, 4]), Ok(()));
         assert_bytes(&rt, &mut disk, 4, [1, 2, 3, 4]);

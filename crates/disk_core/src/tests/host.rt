@@ -269,7 +269,11 @@ impl FileExt for HostFile {
         let count = buf.len().min(state.most);
         let inode = state.inode(self.inode)?;
         let mut taken = 0;
-        for (place, byte) in buf.iter_mut().take(count).zip(inode.seen.iter().skip(offset as usize)) {
+        for (place, byte) in buf
+            .iter_mut()
+            .take(count)
+            .zip(inode.seen.iter().skip(offset as usize))
+        {
             *place = *byte;
             taken += 1;
         }
@@ -279,7 +283,9 @@ impl FileExt for HostFile {
     fn write_at(&self, buf: &[u8], offset: u64) -> io::Result<usize> {
         let mut state = self.call("pwrite")?;
         let count = buf.len().min(state.most);
-        state.inode(self.inode)?.put(offset as usize, &buf[..count])?;
+        state
+            .inode(self.inode)?
+            .put(offset as usize, &buf[..count])?;
         Ok(count)
     }
 }
