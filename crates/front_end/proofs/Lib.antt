@@ -22,4 +22,3 @@ pub mod RecordLemmas
 pub mod LaterLemmas
 pub mod DiskLemmas
 pub mod ClusterLemmas
-pub mod TestLemmas

@@ -3,7 +3,7 @@
 ghost use Rattle.std.specs.Prelude.{◌≡◌, ◌≢◌, ◌⊎◌, ◌++◌, ◌∷◌, [], ◌<◌, ◌≤◌, ◌+◌, ℕ, List, Option, Some, true};
 ghost use Rattle.outside.specs.Causes.{Rose};
 ghost use Rattle.outside.specs.Words.{started};
-ghost use Rattle.lab_nodes.specs.Nodes.{AllTidy, HomeHolds, never_opened};
+ghost use Rattle.lab_nodes.specs.Nodes.{HomeHolds, never_opened};
 ghost use Rattle.lab_nodes.specs.Spots.{HasFailed};
 ghost use Rattle.run_words.specs.Settings.{Spells};
 ghost use Rattle.run_words.specs.declared.settings.Settings.{Settings as SettingsValue};
@@ -40,7 +40,6 @@ pub fn run_lab<S: Source, K: Sink, B: Bays, M: Moves, U: Random>(
 ) -> u8
 where
     B::Disk: Drop,
-    requires tidy { B.Disk.tells → AllTidy B.Disk.content B.home bays.old }
 
     // Words outside the grammar are told, and nothing else is done, unless there is no memory to read them.
     ensures refused { ((settings : SettingsValue) → Spells settings words.now → ⊥) → WasRefused result (M.given moves.old) (M.given moves.new) (outside_of (S.left input.old) (S.left input.new) (K.taken output.old) (K.taken output.new) (U.ahead random.old) (U.ahead random.new))
@@ -55,10 +54,8 @@ where
     ensures run { (settings : SettingsValue) → Spells settings words.now → HasRun settings.shape (disks_of B.tells B.Disk.tells B.Disk.content B.Disk.size B.Disk.faults B.home settings.shape settings.folder bays.old bays.new) (M.given moves.old) (M.given moves.new) result (outside_of (S.left input.old) (S.left input.new) (K.taken output.old) (K.taken output.new) (started U.seeded settings.ids (U.ahead random.old)) (U.ahead random.new)) × (M.seeds moves.new ≡ M.seeds moves.old ++ settings.seed ∷ [])
         ⊎ ((result ≡ 5) ⊎ (result ≡ 6)) × (M.given moves.new ≡ M.given moves.old) × (M.seeds moves.new ≡ M.seeds moves.old) × (bays.new ≡ bays.old) × IsUntouched (outside_of (S.left input.old) (S.left input.new) (K.taken output.old) (K.taken output.new) (U.ahead random.old) (U.ahead random.new)) }
 
-    // Each disk that was taken out is at home again, whatever the status, and the logs of the disks are tidy still, so that the call
-    // can be made again.
+    // Each disk that was taken out is at home again, whatever the status.
     ensures home { B.tells → (n p : ℕ) → B.out bays.new n p ≡ B.out bays.old n p }
-    ensures tidy_again { B.Disk.tells → AllTidy B.Disk.content B.home bays.new }
 
     // A failure is answered only where it happened.
     ensures source { result ≡ 3 → Rose (S.faults input.old) (S.faults input.new) }
@@ -115,11 +112,9 @@ where
     B::Disk: Drop,
     requires shape { IsShape settings.now.shape }
     requires limit { settings.now.shape.chunk ≡ 65536 }
-    requires tidy { B.Disk.tells → AllTidy B.Disk.content B.home bays.old }
     ensures run { HasRun settings.now.shape (disks_of B.tells B.Disk.tells B.Disk.content B.Disk.size B.Disk.faults B.home settings.now.shape settings.now.folder bays.old bays.new) (M.given moves.old) (M.given moves.new) result (outside_of (S.left input.old) (S.left input.new) (K.taken output.old) (K.taken output.new) (started U.seeded settings.now.ids (U.ahead random.old)) (U.ahead random.new)) × (M.seeds moves.new ≡ M.seeds moves.old ++ settings.now.seed ∷ [])
         ⊎ (result ≡ 5) × (M.given moves.new ≡ M.given moves.old) × (M.seeds moves.new ≡ M.seeds moves.old) × (bays.new ≡ bays.old) × IsUntouched (outside_of (S.left input.old) (S.left input.new) (K.taken output.old) (K.taken output.new) (U.ahead random.old) (U.ahead random.new)) }
     ensures home { B.tells → (n p : ℕ) → B.out bays.new n p ≡ B.out bays.old n p }
-    ensures tidy_again { B.Disk.tells → AllTidy B.Disk.content B.home bays.new }
     ensures source { result ≡ 3 → Rose (S.faults input.old) (S.faults input.new) }
     ensures sink { result ≡ 4 → Rose (K.faults output.old) (K.faults output.new) }
     ensures random { result ≡ 5 → Rose (U.faults random.old) (U.faults random.new) ⊎ HasFailed B.Disk.faults (B.faults bays.old) (B.faults bays.new) }
@@ -156,11 +151,9 @@ where
     B::Disk: Drop,
     requires shape { IsShape shape.now }
     requires limit { shape.now.chunk ≡ 65536 }
-    requires tidy { B.Disk.tells → AllTidy B.Disk.content B.home bays.old }
     ensures run { HasRun shape.now (disks_of B.tells B.Disk.tells B.Disk.content B.Disk.size B.Disk.faults B.home shape.now folder.now bays.old bays.new) (M.given moves.old) (M.given moves.new) result (outside_of (S.left input.old) (S.left input.new) (K.taken output.old) (K.taken output.new) (U.ahead random.old) (U.ahead random.new)) }
     ensures seeds { M.seeds moves.new ≡ M.seeds moves.old }
     ensures home { B.tells → (n p : ℕ) → B.out bays.new n p ≡ B.out bays.old n p }
-    ensures tidy_again { B.Disk.tells → AllTidy B.Disk.content B.home bays.new }
     ensures failed { result ≡ 5 → HasFailed B.Disk.faults (B.faults bays.old) (B.faults bays.new) }
     ensures source { result ≡ 3 → Rose (S.faults input.old) (S.faults input.new) }
     ensures sink { result ≡ 4 → Rose (K.faults output.old) (K.faults output.new) }
@@ -184,12 +177,10 @@ where
     A::Disk: Drop,
     requires shape { IsShape shape.now }
     requires limit { shape.now.chunk ≡ 65536 }
-    requires tidy { A.Disk.tells → AllTidy A.Disk.content A.home bays }
     ensures run { HasRun shape.now (disks_of A.tells A.Disk.tells A.Disk.content A.Disk.size A.Disk.faults A.home shape.now folder.now bays result.1) (M.given moves.old) (M.given moves.new) result.0 (outside_of (S.left input.old) (S.left input.new) (K.taken output.old) (K.taken output.new) (U.ahead random.old) (U.ahead random.new)) }
     ensures seeds { M.seeds moves.new ≡ M.seeds moves.old }
     ensures same_bays { A.same bays result.1 }
     ensures home { A.tells → (n p : ℕ) → A.out result.1 n p ≡ A.out bays n p }
-    ensures tidy_again { A.Disk.tells → AllTidy A.Disk.content A.home result.1 }
     ensures failed { result.0 ≡ 5 → HasFailed A.Disk.faults (A.faults bays) (A.faults result.1) }
     ensures source { result.0 ≡ 3 → Rose (S.faults input.old) (S.faults input.new) }
     ensures sink { result.0 ≡ 4 → Rose (K.faults output.old) (K.faults output.new) }
@@ -213,13 +204,11 @@ where
     A::Disk: Drop,
     requires shape { IsShape shape.now }
     requires limit { shape.now.chunk ≡ 65536 }
-    requires tidy { A.Disk.tells → AllTidy A.Disk.content A.home bays }
     ensures run { HasRun shape.now (disks_of A.tells A.Disk.tells A.Disk.content A.Disk.size A.Disk.faults A.home shape.now folder.now bays result.1) (N.given moves) (N.given result.2) result.0 (outside_of (S.left input.old) (S.left input.new) (K.taken output.old) (K.taken output.new) (U.ahead random.old) (U.ahead random.new)) }
     ensures same { N.same moves result.2 }
     ensures seeds { N.seeds result.2 ≡ N.seeds moves }
     ensures same_bays { A.same bays result.1 }
     ensures home { A.tells → (n p : ℕ) → A.out result.1 n p ≡ A.out bays n p }
-    ensures tidy_again { A.Disk.tells → AllTidy A.Disk.content A.home result.1 }
     ensures failed { result.0 ≡ 5 → HasFailed A.Disk.faults (A.faults bays) (A.faults result.1) }
     ensures source { result.0 ≡ 3 → Rose (S.faults input.old) (S.faults input.new) }
     ensures sink { result.0 ≡ 4 → Rose (K.faults output.old) (K.faults output.new) }
@@ -253,7 +242,6 @@ where
     ensures seeds { N.seeds fabric.new.moves ≡ N.seeds fabric.old.moves }
     ensures same_bays { A.same fabric.old.nodes.bays fabric.new.nodes.bays }
     ensures home { A.tells → (n p : ℕ) → A.out fabric.new.nodes.bays n p ≡ A.out fabric.old.nodes.bays n p }
-    ensures tidy_again { A.Disk.tells → AllTidy A.Disk.content A.home fabric.old.nodes.bays → AllTidy A.Disk.content A.home fabric.new.nodes.bays }
     ensures failed { result ≡ 5 → HasFailed A.Disk.faults (A.faults fabric.old.nodes.bays) (A.faults fabric.new.nodes.bays) }
     ensures source { result ≡ 3 → Rose (S.faults input.old) (S.faults input.new) }
     ensures sink { result ≡ 4 → Rose (K.faults output.old) (K.faults output.new) }

@@ -11,11 +11,11 @@ use Rattle.world_model.specs.World.{Cells}
 use Rattle.lab_nodes.specs.declared.places.Which.{Which}
 use Rattle.lab_nodes.specs.Holding.{settings_of}
 use Rattle.lab_nodes.specs.Layouts.{HasLayoutAt, HaveLayouts, Layouts}
-use Rattle.lab_nodes.specs.Nodes.{AllTidy, Holds, HoldsAt, HoldsSome, IsFor, IsOpen, IsOutAs, NodesState, OnlyOwnOut, has_replica, replica_in}
+use Rattle.lab_nodes.specs.Nodes.{Holds, HoldsAt, HoldsSome, IsFor, IsOpen, IsOutAs, NodesState, OnlyOwnOut, has_replica, replica_in}
 use Rattle.lab_nodes.specs.Spots.{AreOut, RestStays, StartsSpot, StaysClosed, node_at, partition_at, slot_at, spot_at}
 use Rattle.lab_nodes.specs.Starting.{AreEmpty, FirstChange, StartsSlot, is_due}
 use Rattle.lab_nodes.proofs.Placing.{slot_here, slot_out, where_is}
-use Rattle.lab_nodes.proofs.Starting.{started_layouts, started_open, started_out, started_places, started_tidy, started_up, stopped_layouts, stopped_outs, stopped_places, stopped_slot, stopped_tidy}
+use Rattle.lab_nodes.proofs.Starting.{started_layouts, started_open, started_out, started_places, started_up, stopped_layouts, stopped_outs, stopped_places, stopped_slot}
 
 -- nodes that were never opened
 module _ {B D : Type 0} (content : D → Content) (home : B → Home D) (out : B → Out) (nodes : NodesState B D) (shut : nodes.shape ≡ None) where
@@ -94,9 +94,6 @@ module _ {B D : Type 0} (bays_tell tells : Type 0) (content : D → Content) (si
         (λ n p. subst (λ (s : Option (ReplicaState D)). HasLayoutAt content (has_replica shape n p) (settings_of shape) s (home nodes.bays folder n p) (layouts n p)) (sym (none_in shape slots none n p)) (closed_layouts content home out nodes shut shape folder layouts have n p));
   }
 
-  pub opened_tidy : tells → AllTidy content home nodes.bays → AllTidy content home new_bays
-  opened_tidy t tidy = started_tidy bays_tell tells content size home out known Which.All shape folder nodes.bays new_bays slots new_slots ranges long longer all_in outs empty kept starts spots rest t tidy
-
   pub opened_out : bays_tell → (before : Out) → OnlyOwnOut out before nodes → OnlyOwnOut out before (record { shape = Some shape; folder = folder; bays = new_bays; slots = new_slots })
   opened_out t before own =
       started_out bays_tell tells content size home out known Which.All shape folder nodes.bays new_bays slots new_slots ranges long longer all_in outs empty kept starts spots rest t before
@@ -121,9 +118,6 @@ module _ {B D : Type 0} (bays_tell tells : Type 0) (content : D → Content) (si
       subst (λ (s : Option (ReplicaState D)). HasLayoutAt content (has_replica shape n p) (settings_of shape) s (home new.bays folder n p) (layouts n p)) (stopped_slot shape slots new_slots closed n p ∙ none_in shape slots none n p)
       (stopped_layouts bays_tell tells content size home out known shape folder nodes.bays new.bays slots new_slots closed closed_spots rest t layouts
       (λ m q. subst (λ (s : Option (ReplicaState D)). HasLayoutAt content (has_replica shape m q) (settings_of shape) s (home nodes.bays folder m q) (layouts m q)) (sym (none_in shape slots none m q)) (closed_layouts content home out nodes shut shape folder layouts have m q)) n p))
-
-  pub unopened_tidy : tells → AllTidy content home nodes.bays → AllTidy content home new.bays
-  unopened_tidy t tidy = stopped_tidy bays_tell tells content size home out known shape folder nodes.bays new.bays slots new_slots closed closed_spots rest t tidy
 
   pub unopened_out : bays_tell → (before : Out) → OnlyOwnOut out before nodes → OnlyOwnOut out before new
   unopened_out t before own = subst (λ (o : Option Shape). (n p : ℕ) → IsOutAs (is_some (replica_in o new.slots n p)) new.folder (before n p) (out new.bays n p)) (sym still)

@@ -14,13 +14,12 @@ use Rattle.world_model.specs.World.{Cells, Change}
 use Rattle.lab_nodes.specs.declared.places.Which.{Which}
 use Rattle.lab_nodes.specs.Holding.{HoldsPlace, PlaceHasLayout, settings_of}
 use Rattle.lab_nodes.specs.Layouts.{HasLayoutAt, Layouts}
-use Rattle.lab_nodes.specs.Nodes.{AllTidy, Holds, HoldsAt, IsOpen, IsOutAs, OnlyOwnOut, has_replica, replica_in}
+use Rattle.lab_nodes.specs.Nodes.{Holds, HoldsAt, IsOpen, IsOutAs, OnlyOwnOut, has_replica, replica_in}
 use Rattle.lab_nodes.specs.Spots.{GoesHome, HaltsSpot, KeepsLayout, RestStays, Spot, WentHome, is_meant, node_at, slot_at, spot_at}
 use Rattle.lab_nodes.specs.Starting.{FirstChange, HaltsSlot}
 use Rattle.lab_nodes.proofs.Placing.{slot_here, slot_out, view, view_here, where_is}
 use Rattle.lab_nodes.proofs.Packing.{PlacesHaveLayouts}
 use Rattle.lab_nodes.proofs.Sending.{same_spot}
-use Rattle.lab_nodes.proofs.Tidy.{all_tidy, halts_tidy}
 use Rattle.lab_nodes.proofs.Walking.{slot_past}
 
 and_true : (b : Bool) → (b && true) ≡ b
@@ -184,12 +183,6 @@ module _ {B D : Type 0} (bays_tell tells : Type 0) (content : D → Content) (si
       go : (due : Bool) → HasLayoutAt content due (settings_of shape) (replica_in (Some shape) slots n p) (home bays folder n p) (layouts n p) → HasLayoutAt content due (settings_of shape) (replica_in (Some shape) new_slots n p) (home new_bays folder n p) (layouts n p)
       go false none = none
       go true here = halts_keeps_layout tells content size stops (settings_of shape) (is_meant which n) (view shape slots folder (home bays) (out bays) n p) (view shape new_slots folder (home new_bays) (out new_bays) n p) (halted_spot (known t) n p) t (layouts n p) here
-
-  -- the disks at home are those of tidy logs
-  pub halted_tidy : tells → AllTidy content home bays → AllTidy content home new_bays
-  halted_tidy t tidy = all_tidy tells content size home out shape folder bays new_bays (rest (known t)) (λ k.
-      halts_tidy tells content size stops (settings_of shape) (is_meant which (node_at shape.partitions k)) (spot_at shape.partitions folder slots (home bays) (out bays) k) (spot_at shape.partitions folder new_slots (home new_bays) (out new_bays) k) (each_spot (known t) k)
-      (λ some. halted_open.places t k (it.due k some))) tidy
 
   -- a replica that was open went home
   pub halted_went : bays_tell → (n p : ℕ) (replica : ReplicaState D) → is_meant which n ≡ true → replica_in (Some shape) slots n p ≡ Some replica

@@ -19,7 +19,7 @@ use Rattle.lab_nodes.specs.Holding.{AllStandEither, HoldsOpen, HoldsPlace, Holds
 use Rattle.lab_nodes.proofs.Fresh.{empty_cells, new_stands}
 
 pub same_stands : (settings : LogSettings) (bytes : List ℕ) (f h : BlobId → Cell) (end : ℕ) → ((id : BlobId) → h id ≡ f id) → StandsForCells settings bytes f end → StandsForCells settings bytes h end
-same_stands settings bytes f h end same stands = record { records = stands.records; stands = stands.stands; tidy = stands.tidy; give = λ id. same id ∙ stands.give id }
+same_stands settings bytes f h end same stands = record { records = stands.records; stands = stands.stands; give = λ id. same id ∙ stands.give id }
 
 -- what isn't in doubt is settled
 pub settled_sure : (landed : Bool) (cells : BlobId → Cell) (id : BlobId) → settled landed cells None id ≡ cells id
@@ -44,7 +44,7 @@ pub either_opened : (settings : LogSettings) (old new : Content) (cells : BlobId
 either_opened settings old new cells doubt changes all c image =
     let from = image_from (OpensLog settings) old new changes c image in
     let was = all from.0 from.1 in
-    record { landed = was.landed; end = was.end; stands = record { records = was.stands.records; stands = from.2.stands was.stands.records was.end was.stands.stands; tidy = was.stands.tidy; give = was.stands.give } }
+    record { landed = was.landed; end = was.end; stands = record { records = was.stands.records; stands = from.2.stands was.stands.records was.end was.stands.stands; give = was.stands.give } }
 
 -- a new disk holds nothing
 pub either_new : (settings : LogSettings) (content : Content) (cells : BlobId → Cell) (doubt : Option Change) → IsNewContent (disk_size settings) content → ((id : BlobId) → cells id ≡ Absent) → AllStandEither settings content cells doubt

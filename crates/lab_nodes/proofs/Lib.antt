@@ -2,7 +2,6 @@ pub mod Fresh
 pub mod Holding
 pub mod Packing
 pub mod Sending
-pub mod Tidy
 pub mod Taking
 pub mod Standing
 pub mod Walking

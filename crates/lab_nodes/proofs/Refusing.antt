@@ -11,11 +11,10 @@ use Rattle.world_model.specs.declared.order.Refusal.{Refusal}
 use Rattle.world_model.specs.declared.shape.Shape.{Shape}
 use Rattle.lab_nodes.specs.declared.places.Which.{Which}
 use Rattle.lab_nodes.specs.Holding.{HoldsPlace, PlaceHasLayout, settings_of, settled}
-use Rattle.lab_nodes.specs.Spots.{GoesHome, HaltsSpot, IsCause, IsTidyHome, OpensSpot, RestStays, Spot, StartsSpot, StaysClosed, is_meant, node_at, partition_at, place_of, slot_at, spot_at, stands_on}
+use Rattle.lab_nodes.specs.Spots.{GoesHome, HaltsSpot, IsCause, OpensSpot, RestStays, Spot, StartsSpot, StaysClosed, is_meant, node_at, partition_at, place_of, slot_at, spot_at, stands_on}
 use Rattle.lab_nodes.specs.Starting.{AreEmpty, CanOpen, FirstChange, HaltsSlot, IsDueAt, IsFirst, OpensTo, StartsSlot, StopsAt, is_due}
 use Rattle.lab_nodes.proofs.Holding.{either_settled, held_up, opened_settles}
 use Rattle.lab_nodes.proofs.Packing.{opened_log}
-use Rattle.lab_nodes.proofs.Tidy.{either_tidy, home_tidy}
 use Rattle.lab_nodes.proofs.Walking.{slot_past}
 use Rattle.std.specs.Prelude.{IsSome}
 
@@ -32,7 +31,6 @@ module _ {D : Type 0} (tells : Type 0) (content : D → Content) (size : D → �
     out = ap (λ (s : Spot D). s.out) same;
     keeps = λ t cells doubt holds. subst (λ (s : Spot D). HoldsPlace content settings s.slot s.home cells doubt) (sym same) holds;
     layout = λ t layout laid. subst (λ (s : Spot D). PlaceHasLayout content settings s.slot s.home layout) (sym same) laid;
-    tidy = λ t tidy. subst (λ (s : Spot D). IsTidyHome tells content size s.home) (sym same) tidy;
   }
 
   -- a place without a replica is closed already
@@ -55,12 +53,6 @@ module _ {D : Type 0} (tells : Type 0) (content : D → Content) (size : D → �
         layout = λ t layout laid.
             let log = opened_log content settings tells old.home opens.replica layout t opens.opened (subst (λ (s : Option (ReplicaState D)). PlaceHasLayout content settings s old.home layout) none laid) in
             (went.1 t settings).1 layout (subst (λ (s : Spot D). PlaceHasLayout content settings s.slot s.home layout) (sym opens.is) log);
-        tidy = λ t tidy. home_tidy tells content size new.home went.0.kept (ap (λ (s : Spot D). s.home) went.0.is) (λ other.
-            let cells = cell_in opens.replica.cells in
-            let held = held_up content settings opens.replica cells None opens.opened.up (record { sure = refl; named = opens.opened.named; held = λ id. refl }) in
-            let before = subst (λ (s : Spot D). HoldsPlace content settings s.slot s.home cells None) (sym opens.is) held in
-            let after = subst (λ (s : Spot D). HoldsPlace content settings s.slot s.home cells None) went.0.is ((went.1 t settings).0 cells None before) in
-            either_tidy settings other (content went.0.kept) cells None after);
       }
 
 module _ {D : Type 0} (tells : Type 0) (content : D → Content) (size : D → ℕ) (which : Which) (shape : Shape) (folder : List ℕ) (at count : ℕ) (old mid new : ℕ → Spot D) (within : at < count)

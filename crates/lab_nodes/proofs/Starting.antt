@@ -19,9 +19,9 @@ use Rattle.world_model.specs.World.{Cells}
 use Rattle.lab_nodes.specs.declared.places.Which.{Which}
 use Rattle.lab_nodes.specs.Holding.{HoldsPlace, PlaceHasLayout, settings_of, settled}
 use Rattle.lab_nodes.specs.Layouts.{HasLayoutAt, Layouts}
-use Rattle.lab_nodes.specs.Nodes.{AllTidy, HoldsAt, HoldsSome, IsOpen, IsOutAs, OnlyOwnOut, has_replica, replica_in}
+use Rattle.lab_nodes.specs.Nodes.{HoldsAt, HoldsSome, IsOpen, IsOutAs, OnlyOwnOut, has_replica, replica_in}
 use Rattle.lab_nodes.specs.Spots.{AreOut, KeepsLayout, OpensSpot, RestStays, Spot, StartsSpot, StaysClosed, is_meant, node_at, partition_at, place_of, slot_at, spot_at, stands_on}
-use Rattle.lab_nodes.specs.Starting.{AreEmpty, AreTidyAt, FirstChange, IsDueAt, StartsSlot, is_due}
+use Rattle.lab_nodes.specs.Starting.{AreEmpty, FirstChange, IsDueAt, StartsSlot, is_due}
 use Rattle.lab_nodes.proofs.Asking.{place_same}
 use Rattle.lab_nodes.proofs.Halting.{PlacesHold}
 use Rattle.lab_nodes.proofs.Holding.{held_up, opened_settles, settled_sure}
@@ -29,7 +29,6 @@ use Rattle.lab_nodes.proofs.Packing.{PlacesHaveLayouts, opened_log}
 use Rattle.lab_nodes.proofs.Placing.{Outside, due_here, has_out, inside, slot_here, slot_out, undue_past, view, view_here, where_is}
 use Rattle.lab_nodes.proofs.Refusing.{place_again, stays_same}
 use Rattle.lab_nodes.proofs.Sending.{same_spot}
-use Rattle.lab_nodes.proofs.Tidy.{all_tidy, some_tidy, starts_tidy}
 use Rattle.lab_nodes.proofs.Walking.{slot_past}
 
 or_false : (b : Bool) → (b || false) ≡ b
@@ -73,12 +72,6 @@ module _ {D : Type 0} (tells : Type 0) (content : D → Content) (size : D → �
   opens_out old new before none opens holds =
       let was : old.out ≡ before = subst (λ (s : Option (ReplicaState D)). IsOutAs (is_some s) folder before old.out) none holds in
       subst (λ (s : Spot D). IsOutAs (is_some s.slot) folder before s.out) (sym opens.is) (sym was ∙ opens.was_in, refl)
-
--- places that hold some cells have tidy logs
-pub some_are_tidy : {B D : Type 0} (bays_tell tells : Type 0) (content : D → Content) (size : D → ℕ) (home : B → Home D) (out : B → Out) (which : Which) (shape : Shape) (folder : List ℕ) (bays : B) (slots : List (Option (ReplicaState D))) → IsOpen bays_tell tells content home out shape folder bays slots
-    → AreEmpty which shape.partitions slots → tells → AreTidyAt tells content size which shape folder (home bays)
-some_are_tidy bays_tell tells content size home out which shape folder bays slots it empty t k due disk is =
-    some_tidy content (settings_of shape) (settings_of shape) (slot_at slots k) (home bays folder (node_at shape.partitions k) (partition_at shape.partitions k)) disk (empty_slot which shape slots empty k due) is (it.places t k (all_due which shape k due))
 
 -- where nothing is due
 undue_out : (which : Which) (shape : Shape) → IsShape shape → (n p : ℕ) → Outside shape n p → (is_meant which n && has_replica shape n p) ≡ false
@@ -197,11 +190,6 @@ module _ {B D : Type 0} (bays_tell tells : Type 0) (content : D → Content) (si
       go false none = none
       go true here = spot (is_meant which n && has_replica shape n p) refl (started_spot (known t) n p) here
 
-  -- the disks at home are those of tidy logs
-  pub started_tidy : tells → AllTidy content home bays → AllTidy content home new_bays
-  started_tidy t tidy = all_tidy tells content size home out shape folder bays new_bays (rest (known t)) (λ k.
-      starts_tidy tells content size (settings_of shape) folder (is_due which shape k) (spot_at shape.partitions folder slots (home bays) (out bays) k) (spot_at shape.partitions folder new_slots (home new_bays) (out new_bays) k) (each_spot (known t) k)) tidy
-
   pub started_out : bays_tell → (before : Out) → ((n p : ℕ) → IsOutAs (is_some (replica_in (Some shape) slots n p)) folder (before n p) (out bays n p)) → OnlyOwnOut out before (record { shape = Some shape; folder = folder; bays = new_bays; slots = new_slots })
   started_out t before own n p = go (is_meant which n && has_replica shape n p) refl (started_spot t n p)
     where
@@ -290,9 +278,6 @@ module _ {B D : Type 0} (bays_tell tells : Type 0) (content : D → Content) (si
       go : (due : Bool) → HasLayoutAt content due (settings_of shape) (replica_in (Some shape) slots n p) (home bays folder n p) (layouts n p) → HasLayoutAt content due (settings_of shape) (replica_in (Some shape) new_slots n p) (home new_bays folder n p) (layouts n p)
       go false none = none
       go true here = (stopped_spot (known t) n p).layout t (layouts n p) here
-
-  pub stopped_tidy : tells → AllTidy content home bays → AllTidy content home new_bays
-  stopped_tidy t tidy = all_tidy tells content size home out shape folder bays new_bays (rest (known t)) (λ k. (closed_spots (known t) k).tidy t) tidy
 
   pub stopped_outs : bays_tell → (n p : ℕ) → out new_bays n p ≡ out bays n p
   stopped_outs t n p = (stopped_spot t n p).out

@@ -9,9 +9,7 @@ use Rattle.log_manifest.specs.declared.manifest.LogSettings.{LogSettings}
 use Rattle.part_log.specs.declared.fault.OpenFault.{OpenFault}
 use Rattle.part_log.specs.Images.{IsDamaged, IsLaidOut, NamesOther, OpensLog}
 use Rattle.part_log.specs.Log.{disk_size}
-use Rattle.replica_core.specs.Maps.{HasTidy}
 use Rattle.replica_core.specs.State.{ReplicaState}
-use Rattle.replica_core.proofs.Standing.{opens_tidy}
 use Rattle.world_model.specs.World.{Change}
 use Rattle.lab_nodes.specs.Holding.{AllStandEither, HoldsPlace, IsOpened, found}
 use Rattle.world_model.specs.declared.order.Refusal.{Refusal}
@@ -23,7 +21,6 @@ use Rattle.lab_nodes.proofs.Holding.{either_new, either_opened, either_same, ima
 use Rattle.lab_nodes.proofs.Packing.{place_laid}
 use Rattle.lab_nodes.proofs.Refusing.{stays_same}
 use Rattle.lab_nodes.proofs.Sending.{same_spot}
-use Rattle.lab_nodes.proofs.Tidy.{home_tidy, new_tidy}
 
 -- places stay where each of two steps leaves them
 pub others_on : {D : Type 0} (folder : List ℕ) (node partition : ℕ) (home mid_home new_home : Home D) (out mid_out new_out : Out) → OthersStay folder node partition home out mid_home mid_out → OthersStay folder node partition mid_home mid_out new_home new_out → OthersStay folder node partition home out new_home new_out
@@ -40,14 +37,6 @@ module _ {D : Type 0} (tells : Type 0) (content : D → Content) (size : D → �
       go : (h : Option D) → home folder node partition ≡ h → (content disk).seen ≡ found content settings h
       go None is = (takes.fresh is t).zeros
       go (Some kept) is = ((takes.same kept is).told t).seen
-
-  -- and a tidy log, whatever the settings
-  pub taken_tidy : (other : LogSettings) → ((kept : D) → home folder node partition ≡ Some kept → HasTidy other (content kept).seen) → HasTidy other (content disk).seen
-  taken_tidy other tidy = subst (λ (l : List ℕ). HasTidy other l) (sym taken_found) (go (home folder node partition) refl)
-    where
-      go : (h : Option D) → home folder node partition ≡ h → HasTidy other (found content settings h)
-      go None is = new_tidy settings other
-      go (Some kept) is = tidy kept is
 
   -- what the place holds stands on the disk that was taken out
   pub taken_stands : (cells : BlobId → Cell) (doubt : Option Change) → HoldsPlace content settings None (home folder node partition) cells doubt → AllStandEither settings (content disk) cells doubt
@@ -84,10 +73,6 @@ module _ {D : Type 0} (tells : Type 0) (content : D → Content) (size : D → �
         let taken = taken_found tells content size settings folder node partition disk home out mid_home mid_out takes t in
         place_laid content settings left puts.kept (new_home folder node partition) layout puts.at_home (puts.same.told t).seen
         ((sees t).layout layout (subst (λ (l : List ℕ). IsLaidOut settings l layout) (sym taken) laid));
-    tidy = λ t tidy. home_tidy tells content size (new_home folder node partition) puts.kept puts.at_home (λ other.
-        subst (λ (l : List ℕ). HasTidy other l) (sym (puts.same.told t).seen)
-        (opens_tidy settings other (content disk).seen (content left).seen (sees t) (unchanged t)
-        (taken_tidy tells content size settings folder node partition disk home out mid_home mid_out takes t other (λ kept is. tidy other kept is))));
   }
 
 -- the bays refused

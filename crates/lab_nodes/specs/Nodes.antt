@@ -14,7 +14,6 @@ use Rattle.lab_nodes.specs.Holding.{HoldsPlace, settings_of}
 use Rattle.lab_nodes.specs.Spots.{AreOut, node_at, partition_at, place_of, slot_at, stands_on}
 use Rattle.lab_nodes.specs.Starting.{is_due}
 use Rattle.log_manifest.specs.declared.manifest.LogSettings.{LogSettings}
-use Rattle.replica_core.specs.Maps.{HasTidy}
 use Rattle.replica_core.specs.State.{IsAsked, ReplicaState}
 use Rattle.world_model.specs.declared.shape.Shape.{Shape}
 use Rattle.world_model.specs.Shape.{IsShape}
@@ -90,10 +89,6 @@ module _ {B D : Type 0} (content : D → Content) (home : B → Home D) where
   -- What the disks at home of a shape stand for, in a folder.
   abbrev pub HomeHolds : Shape → List ℕ → B → Cells → Type 0
   HomeHolds shape folder bays cells = (n p : ℕ) → HoldsAt (has_replica shape n p) (settings_of shape) None (home bays folder n p) (cells n p)
-
-  -- every disk that is at home is that of a tidy log, whatever its settings
-  abbrev pub AllTidy : B → Type 0
-  AllTidy bays = (settings : LogSettings) (folder : List ℕ) (n p : ℕ) (disk : D) → home bays folder n p ≡ Some disk → HasTidy settings (content disk).seen
 
 -- a replica's disk is out under the nodes' folder where it is open, and else as it was before they were opened
 abbrev pub IsOutAs : Bool → List ℕ → (before now : Option (List ℕ)) → Type 0

@@ -10,7 +10,6 @@ use Rattle.outside.specs.Causes.{Rose}
 use Rattle.part_log.specs.Images.{IsDamaged, NamesOther}
 use Rattle.part_log.specs.Layout.{Layout}
 use Rattle.part_log.specs.Log.{disk_size}
-use Rattle.replica_core.specs.Maps.{HasTidy}
 use Rattle.replica_core.specs.State.{ReplicaState}
 use Rattle.lab_nodes.specs.declared.places.Which.{Which}
 use Rattle.lab_nodes.specs.Holding.{HoldsPlace, IsOpened, Left, PlaceHasLayout, found}
@@ -79,10 +78,6 @@ module _ {D : Type 0} (tells : Type 0) (content : D → Content) (size : D → �
   abbrev pub KeepsLayout : LogSettings → Spot D → Spot D → Type 0
   KeepsLayout settings old new = (layout : Layout) → PlaceHasLayout content settings old.slot old.home layout → PlaceHasLayout content settings new.slot new.home layout
 
-  -- a disk that is at home is that of a tidy log, whatever its settings
-  abbrev pub IsTidyHome : Option D → Type 0
-  IsTidyHome home = (settings : LogSettings) (disk : D) → home ≡ Some disk → HasTidy settings (content disk).seen
-
   -- The disk of a replica is at home, as it is or as a stop leaves it.
   pub record WentHome (stops : Bool) (replica : ReplicaState D) (new : Spot D) : Type 0 where
     pub kept : D
@@ -116,7 +111,6 @@ module _ {D : Type 0} (tells : Type 0) (content : D → Content) (size : D → �
     pub out : new.out ≡ old.out
     pub keeps : tells → Keeps settings old new
     pub layout : tells → KeepsLayout settings old new
-    pub tidy : tells → IsTidyHome old.home → IsTidyHome new.home
 
   -- why the disk of a place isn't opened
   abbrev pub IsCause : LogSettings → Option D → What → Type 0

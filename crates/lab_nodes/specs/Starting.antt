@@ -8,7 +8,7 @@ use Rattle.lab_nodes.specs.declared.places.Which.{Which}
 use Rattle.lab_nodes.specs.Holding.{found, settings_of}
 use Rattle.lab_nodes.specs.Spots.{IsCause, Spot, StartsSpot, StaysClosed, is_meant, node_at, partition_at, place_of, slot_at, stands_on}
 use Rattle.log_manifest.specs.declared.manifest.LogSettings.{LogSettings}
-use Rattle.replica_core.specs.Maps.{HasTidy, StandsForCells}
+use Rattle.replica_core.specs.Maps.{StandsForCells}
 use Rattle.replica_core.specs.State.{ReplicaState}
 use Rattle.world_model.specs.declared.order.Refusal.{Refusal}
 use Rattle.world_model.specs.declared.shape.Shape.{Shape}
@@ -50,11 +50,6 @@ pub record IsDueAt (which : Which) (shape : Shape) (refusal : Refusal) : Type 0 
 
 -- What disks of a type tell, and their size.
 module _ {D : Type 0} (tells : Type 0) (content : D → Content) (size : D → ℕ) where
-  -- the logs of the disks that are to be opened are tidy
-  abbrev pub AreTidyAt : Which → Shape → List ℕ → Home D → Type 0
-  AreTidyAt which shape folder home = (place : ℕ) → is_due which shape place ≡ true
-      → (disk : D) → home folder (node_at shape.partitions place) (partition_at shape.partitions place) ≡ Some disk → HasTidy (settings_of shape) (content disk).seen
-
   -- The disk of a place stands for a log.
   pub record CanOpen (settings : LogSettings) (home : Option D) : Type 0 where
     pub cells : BlobId → Cell

@@ -7,9 +7,9 @@ ghost use Rattle.cell_model.specs.declared.ask.Reply.{Reply};
 ghost use Rattle.disk_core.specs.Homes.{Out};
 ghost use Rattle.lab_nodes.specs.Holding.{settings_of};
 ghost use Rattle.lab_nodes.specs.Layouts.{HaveLayouts, Layouts, asked_layouts};
-ghost use Rattle.lab_nodes.specs.Nodes.{AllTidy, AsksReplica, Holds, IsPlaceOf, OnlyOwnOut, asked_cells, has_replica, is_up, never_opened, replica_at, stands};
+ghost use Rattle.lab_nodes.specs.Nodes.{AsksReplica, Holds, IsPlaceOf, OnlyOwnOut, asked_cells, has_replica, is_up, never_opened, replica_at, stands};
 ghost use Rattle.lab_nodes.specs.Spots.{DiskFailed, HasFailed, WentHome, slot_at};
-ghost use Rattle.lab_nodes.specs.Starting.{AreTidyAt, IsFirst};
+ghost use Rattle.lab_nodes.specs.Starting.{IsFirst};
 ghost use Rattle.lab_nodes.specs.declared.fault.NodesFault.{NodesFault};
 ghost use Rattle.lab_nodes.specs.declared.places.Which.{Which};
 ghost use Rattle.replica_core.specs.State.{IsPacked, ReplicaState};
@@ -72,7 +72,6 @@ where
     pub fn open(&mut self, shape: &Shape, folder: &str) -> Result<(), NodesFault>
         requires shape { IsShape shape.now }
         requires closed { self.old.shape ≡ None }
-        requires tidy { B.Disk.tells → AreTidyAt B.Disk.tells B.Disk.content B.Disk.size Which.All shape.now folder.now (B.home self.old.bays) }
 
         ensures named { OnOk result ((self.new.shape ≡ Some shape.now) × (self.new.folder ≡ folder.now)) }
         ensures up { OnOk result ((n p : ℕ) → is_up self.new n p ≡ has_replica shape.now n p) }
@@ -81,7 +80,6 @@ where
         ensures layouts { B.Disk.tells → (layouts : Layouts) → HaveLayouts B.Disk.content B.home shape.now folder.now layouts self.old → HaveLayouts B.Disk.content B.home shape.now folder.now layouts self.new }
         ensures out { B.tells → (before : Out) → OnlyOwnOut B.out before self.old → OnlyOwnOut B.out before self.new }
         ensures refused { (refusal : Refusal) → IsErrOf result (NodesFault.Refused refusal) → B.tells → IsFirst B.Disk.tells B.Disk.content B.Disk.size Which.All shape.now folder.now (B.home self.old.bays) refusal }
-        ensures tidy_again { B.Disk.tells → AllTidy B.Disk.content B.home self.old.bays → AllTidy B.Disk.content B.home self.new.bays }
         ensures failed { IsErrOf result NodesFault.Failed → HasFailed B.Disk.faults (B.faults self.old.bays) (B.faults self.new.bays) }
         ensures later { B.faults self.old.bays ≤ B.faults self.new.bays }
         ensures same { B.same self.old.bays self.new.bays }
@@ -138,7 +136,6 @@ where
         // A disk goes home as a stop of the machine leaves it.
         ensures left { B.tells → (p : ℕ) (replica : ReplicaState B.Disk) → replica_at self.old node p ≡ Some replica → WentHome B.Disk.tells B.Disk.content B.Disk.size true replica (record { slot = None; home = B.home self.new.bays self.new.folder node p; out = B.out self.new.bays node p }) }
         ensures out { B.tells → (before : Out) → OnlyOwnOut B.out before self.old → OnlyOwnOut B.out before self.new }
-        ensures tidy_again { B.Disk.tells → AllTidy B.Disk.content B.home self.old.bays → AllTidy B.Disk.content B.home self.new.bays }
         ensures faults { B.faults self.new.bays ≡ B.faults self.old.bays }
         ensures same { B.same self.old.bays self.new.bays }
     {
@@ -165,7 +162,6 @@ where
         ensures layouts { B.Disk.tells → (shape : Shape) (folder : List ℕ) (layouts : Layouts) → HaveLayouts B.Disk.content B.home shape folder layouts self.old → HaveLayouts B.Disk.content B.home shape folder layouts self.new }
         ensures out { B.tells → (before : Out) → OnlyOwnOut B.out before self.old → OnlyOwnOut B.out before self.new }
         ensures refused { (refusal : Refusal) → IsErrOf result (NodesFault.Refused refusal) → refusal.node ≡ node }
-        ensures tidy_again { B.Disk.tells → AllTidy B.Disk.content B.home self.old.bays → AllTidy B.Disk.content B.home self.new.bays }
         ensures failed { IsErrOf result NodesFault.Failed → HasFailed B.Disk.faults (B.faults self.old.bays) (B.faults self.new.bays) }
         ensures later { B.faults self.old.bays ≤ B.faults self.new.bays }
         ensures same { B.same self.old.bays self.new.bays }
@@ -192,7 +188,6 @@ where
         ensures layouts { B.Disk.tells → (shape : Shape) (folder : List ℕ) (layouts : Layouts) → HaveLayouts B.Disk.content B.home shape folder layouts self.old → HaveLayouts B.Disk.content B.home shape folder layouts self.new }
         ensures left { B.tells → (n p : ℕ) (replica : ReplicaState B.Disk) → replica_at self.old n p ≡ Some replica → WentHome B.Disk.tells B.Disk.content B.Disk.size false replica (record { slot = None; home = B.home self.new.bays self.new.folder n p; out = B.out self.new.bays n p }) }
         ensures out { B.tells → (before : Out) → OnlyOwnOut B.out before self.old → OnlyOwnOut B.out before self.new }
-        ensures tidy_again { B.Disk.tells → AllTidy B.Disk.content B.home self.old.bays → AllTidy B.Disk.content B.home self.new.bays }
         ensures faults { B.faults self.new.bays ≡ B.faults self.old.bays }
         ensures same { B.same self.old.bays self.new.bays }
     {

@@ -10,7 +10,6 @@ ghost use Rattle.log_manifest.specs.declared.manifest.LogSettings.{LogSettings};
 ghost use Rattle.part_log.specs.Images.{IsLaidOut};
 ghost use Rattle.part_log.specs.Layout.{Layout};
 ghost use Rattle.part_log.specs.Log.{AreInRange, disk_size};
-ghost use Rattle.replica_core.specs.Maps.{HasTidy};
 ghost use Rattle.world_model.specs.declared.order.Refusal.{Refusal};
 ghost use Rattle.world_model.specs.Shape.{IsShape};
 ghost use Rattle.world_model.specs.World.{Change};
@@ -53,7 +52,6 @@ pub(crate) fn open_replica<B: Bays>(
     settings: LogSettings,
 ) -> Result<Replica<B::Disk>, NodesFault>
     requires ranges { AreInRange settings }
-    requires tidy { B.Disk.tells → (disk : B.Disk) → B.home bays.old folder.now node partition ≡ Some disk → HasTidy settings (B.Disk.content disk).seen }
 
     ensures opened { IfOk result (λ replica. IsOpened B.Disk.content B.Disk.tells settings (B.home bays.old folder.now node partition) replica) }
     ensures out { IfOk result (λ replica. B.tells → OpensSpot B.Disk.tells B.Disk.content B.Disk.size settings folder.now

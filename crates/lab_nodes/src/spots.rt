@@ -3,9 +3,8 @@
 ghost use Rattle.std.specs.Prelude.{◌≡◌, ◌<◌, ◌≤◌, ℕ, List, Some, None, true, false, IsSome, OnOk, OnErr, IfErr, IsErrOf, length};
 ghost use Rattle.disk_core.specs.Homes.{OthersStay};
 ghost use Rattle.lab_nodes.specs.Spots.{AreOut, HaltsSpot, HasFailed, IsCause, RestStays, StartsSpot, StaysClosed, is_meant, node_at, partition_at, slot_at, spot_at};
-ghost use Rattle.lab_nodes.specs.Starting.{AreEmpty, AreTidyAt, FirstChange, HaltsSlot, IsDueAt, IsFirst, OpensTo, StartsSlot, StopsAt, is_due};
+ghost use Rattle.lab_nodes.specs.Starting.{AreEmpty, FirstChange, HaltsSlot, IsDueAt, IsFirst, OpensTo, StartsSlot, StopsAt, is_due};
 ghost use Rattle.lab_nodes.specs.Holding.{settings_of};
-ghost use Rattle.replica_core.specs.Maps.{HasTidy};
 ghost use Rattle.world_model.specs.Shape.{IsShape};
 ghost use Rattle.world_model.specs.declared.order.Refusal.{Refusal};
 
@@ -95,7 +94,6 @@ where
     B::Disk: Drop,
     requires shape { IsShape shape.now }
     requires place { place < 1024 }
-    requires tidy { B.Disk.tells → is_due which shape.now place ≡ true → (disk : B.Disk) → B.home bays.old folder.now (node_at shape.now.partitions place) (partition_at shape.now.partitions place) ≡ Some disk → HasTidy (settings_of shape.now) (B.Disk.content disk).seen }
     requires empty { is_meant which (node_at shape.now.partitions place) ≡ true → slot.old ≡ None }
 
     ensures slot { OnOk result (StartsSlot (is_due which shape.now place) (settings_of shape.now) slot.old slot.new) }
@@ -138,7 +136,6 @@ where
     B::Disk: Drop,
     requires shape { IsShape shape.now }
     requires few { length slots.old.items ≤ 1024 }
-    requires tidy { B.Disk.tells → AreTidyAt B.Disk.tells B.Disk.content B.Disk.size which shape.now folder.now (B.home bays.old) }
     requires empty { AreEmpty which shape.now.partitions slots.old.items }
 
     ensures length { length slots.new.items ≡ length slots.old.items }
@@ -188,7 +185,6 @@ where
     B::Disk: Drop,
     requires shape { IsShape shape.now }
     requires few { length slots.old.items ≤ 1024 }
-    requires tidy { B.Disk.tells → AreTidyAt B.Disk.tells B.Disk.content B.Disk.size which shape.now folder.now (B.home bays.old) }
     requires empty { AreEmpty which shape.now.partitions slots.old.items }
     requires out { B.tells → AreOut shape.now.partitions folder.now slots.old.items (B.out bays.old) }
 

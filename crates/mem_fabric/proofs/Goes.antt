@@ -11,7 +11,7 @@ use Rattle.disk_core.specs.Content.{Content}
 use Rattle.disk_core.specs.Homes.{Home, Out}
 use Rattle.lab_nodes.specs.Holding.{settings_of}
 use Rattle.lab_nodes.specs.Layouts.{HaveLayouts, HomeHasLayouts, Layouts, asked_layouts}
-use Rattle.lab_nodes.specs.Nodes.{AllTidy, Holds, HomeHolds, IsFor, IsOutAs, NodesState, OnlyOwnOut, asked_cells, has_replica, is_up, never_opened, stands}
+use Rattle.lab_nodes.specs.Nodes.{Holds, HomeHolds, IsFor, IsOutAs, NodesState, OnlyOwnOut, asked_cells, has_replica, is_up, never_opened, stands}
 use Rattle.lab_nodes.specs.Spots.{DiskFailed}
 use Rattle.mem_fabric.specs.Going.{AreNodesOf, GoesOn, HasTornBy, IsStopped, RunsAgain, SameNodes}
 use Rattle.mem_fabric.specs.GoingLaws.{bays_stay, packing_stays}
@@ -108,9 +108,6 @@ module _ {B D : Type 0} (bays_tell disks_tell : Type 0) (content : D → Content
   abbrev KeepsLaid : NodesState B D → NodesState B D → Type 0
   KeepsLaid nodes nodes' = disks_tell → (shape : Shape) (folder : List ℕ) (layouts : Layouts) → HaveLayouts content home shape folder layouts nodes → HaveLayouts content home shape folder layouts nodes'
 
-  abbrev KeepsTidy : NodesState B D → NodesState B D → Type 0
-  KeepsTidy nodes nodes' = disks_tell → AllTidy content home nodes.bays → AllTidy content home nodes'.bays
-
   pub run_at : (s s' : State) (nodes nodes' : NodesState B D) (shape : Shape) (folder : List ℕ) → KeepsState s s' → (disks_tell → (cells : Cells) → Holds content home shape folder cells nodes → Holds content home shape folder cells nodes')
       → KeepsRun (RunsFrom disks_tell content home (calls_of s.past) nodes shape folder) (RunsFrom disks_tell content home (calls_of s'.past) nodes' shape folder)
   run_at s s' nodes nodes' shape folder keeps held = λ opening leads t calm.
@@ -154,7 +151,7 @@ module _ {B D : Type 0} (bays_tell disks_tell : Type 0) (content : D → Content
     of = of;
     run = λ shape folder opening r. r;
     packing = packing_stays disks_tell content home (calls_of s.past) nodes;
-    bays = bays_stay bays_tell disks_tell content home out same nodes e;
+    bays = bays_stay bays_tell out same nodes e;
     torn = λ t. t;
   }
 
@@ -164,35 +161,35 @@ module _ {B D : Type 0} (bays_tell disks_tell : Type 0) (content : D → Content
     of = nodes_stay s s' nodes stays of;
     run = run_on s s' nodes nodes keeps (λ t shape folder cells h. h);
     packing = packing_kept s s' nodes keeps;
-    bays = bays_stay bays_tell disks_tell content home out same nodes e;
+    bays = bays_stay bays_tell out same nodes e;
     torn = torn_on s s' keeps;
   }
 
   -- the nodes are others that hold the same
   goes_with : (s s' : State) (nodes nodes' : NodesState B D) → KeepsState s s' → AreNodesOf s' nodes' → nodes'.shape ≡ nodes.shape → KeepsHeld nodes nodes' → KeepsLaid nodes nodes' → same nodes.bays nodes'.bays
-      → (bays_tell → (before : Out) → OnlyOwnOut out before nodes → OnlyOwnOut out before nodes') → KeepsTidy nodes nodes' → Goes s nodes s' nodes'
-  goes_with s s' nodes nodes' keeps of named held laid e own tidy = record {
+      → (bays_tell → (before : Out) → OnlyOwnOut out before nodes → OnlyOwnOut out before nodes') → Goes s nodes s' nodes'
+  goes_with s s' nodes nodes' keeps of named held laid e own = record {
     of = of;
     run = run_on s s' nodes nodes' keeps held;
     packing = packing_by s s' nodes nodes' keeps named held laid;
-    bays = record { same_bays = e; own = own; tidy = tidy };
+    bays = record { same_bays = e; own = own };
     torn = torn_on s s' keeps;
   }
 
   -- the same nodes, tried in vain
   pub goes_in_vain : (s s' : State) (nodes nodes' : NodesState B D) → KeepsState s s' → SameNodes s s' → AreNodesOf s nodes → nodes'.shape ≡ nodes.shape → ((n p : ℕ) → is_up nodes' n p ≡ is_up nodes n p) → KeepsHeld nodes nodes' → KeepsLaid nodes nodes' → same nodes.bays nodes'.bays
-      → (bays_tell → (before : Out) → OnlyOwnOut out before nodes → OnlyOwnOut out before nodes') → KeepsTidy nodes nodes' → Goes s nodes s' nodes'
-  goes_in_vain s s' nodes nodes' keeps stays of named up held laid e own tidy =
+      → (bays_tell → (before : Out) → OnlyOwnOut out before nodes → OnlyOwnOut out before nodes') → Goes s nodes s' nodes'
+  goes_in_vain s s' nodes nodes' keeps stays of named up held laid e own =
       let of' = nodes_stay s s' nodes stays of in
-      goes_with s s' nodes nodes' keeps (record { shape = named ∙ of'.shape; up = λ n p. up n p ∙ of'.up n p }) named held laid e own tidy
+      goes_with s s' nodes nodes' keeps (record { shape = named ∙ of'.shape; up = λ n p. up n p ∙ of'.up n p }) named held laid e own
 
   pub goes_stopped : (s s' : State) (nodes nodes' : NodesState B D) (node : ℕ) → KeepsState s s' → IsStopped s node s' → AreNodesOf s nodes → nodes'.shape ≡ nodes.shape → ((n p : ℕ) → is_up nodes' n p ≡ (is_up nodes n p && not (n == node))) → KeepsHeld nodes nodes' → KeepsLaid nodes nodes' → same nodes.bays nodes'.bays
-      → (bays_tell → (before : Out) → OnlyOwnOut out before nodes → OnlyOwnOut out before nodes') → KeepsTidy nodes nodes' → Goes s nodes s' nodes'
-  goes_stopped s s' nodes nodes' node keeps stopped of named up held laid e own tidy = goes_with s s' nodes nodes' keeps (nodes_stop s s' nodes nodes' node stopped named up of) named held laid e own tidy
+      → (bays_tell → (before : Out) → OnlyOwnOut out before nodes → OnlyOwnOut out before nodes') → Goes s nodes s' nodes'
+  goes_stopped s s' nodes nodes' node keeps stopped of named up held laid e own = goes_with s s' nodes nodes' keeps (nodes_stop s s' nodes nodes' node stopped named up of) named held laid e own
 
   pub goes_again : (s s' : State) (nodes nodes' : NodesState B D) (node : ℕ) → KeepsState s s' → RunsAgain s node s' → AreNodesOf s nodes → nodes'.shape ≡ nodes.shape → ((n p : ℕ) → is_up nodes' n p ≡ (is_up nodes n p || ((n == node) && stands nodes.shape n p))) → KeepsHeld nodes nodes' → KeepsLaid nodes nodes' → same nodes.bays nodes'.bays
-      → (bays_tell → (before : Out) → OnlyOwnOut out before nodes → OnlyOwnOut out before nodes') → KeepsTidy nodes nodes' → Goes s nodes s' nodes'
-  goes_again s s' nodes nodes' node keeps again of named up held laid e own tidy = goes_with s s' nodes nodes' keeps (nodes_restart s s' nodes nodes' node again named up of) named held laid e own tidy
+      → (bays_tell → (before : Out) → OnlyOwnOut out before nodes → OnlyOwnOut out before nodes') → Goes s nodes s' nodes'
+  goes_again s s' nodes nodes' node keeps again of named up held laid e own = goes_with s s' nodes nodes' keeps (nodes_restart s s' nodes nodes' node again named up of) named held laid e own
 
 -- ---- an opening
 
@@ -364,7 +361,7 @@ module _ {B D : Type 0} (bays_tell disks_tell : Type 0) (content : D → Content
               (subst (λ (b : Bool). PacksTo disks_tell content home shape folder opening first (record { steps = cond b (Step.Torn send) (Step.Exec send reply) ∷ []; given = Some Event.Quiet } ∷ calls_of s.past) nodes') (sym both.0)
               (packs_asked (calls_of s.past) nodes nodes' send request call reply is called runs a both.0 both.1 t shape folder opening first up p)),
         );
-        bays = record { same_bays = subst (λ (b : B). same nodes.bays b) (sym a.bays) e; own = λ t. own_asked nodes nodes' call.node call.partition call.ask reply a; tidy = λ t. subst (λ (b : B). AllTidy content home b) (sym a.bays) };
+        bays = record { same_bays = subst (λ (b : B). same nodes.bays b) (sym a.bays) e; own = λ t. own_asked nodes nodes' call.node call.partition call.ask reply a };
         torn = λ before torn t. elim (torn_run send reply (calls_of s.past) (ap has_torn (sym told_is) ∙ torn)) [
           | inl fault ↦ ∣ a.fault (fault_is reply fault) t ∣₁
           | inr earlier ↦ before earlier t

@@ -2,7 +2,7 @@
 use Rattle.std.specs.Prelude.{◌≡◌, ◌==◌, ℕ, true, ◌&&◌, not, List, [], ◌∷◌, ◌++◌, filter}
 use Rattle.disk_core.specs.Content.{Content}
 use Rattle.disk_core.specs.Homes.{Home, Out}
-use Rattle.lab_nodes.specs.Nodes.{AllTidy, NodesState, OnlyOwnOut, is_up, stands}
+use Rattle.lab_nodes.specs.Nodes.{NodesState, OnlyOwnOut, is_up, stands}
 use Rattle.lab_nodes.specs.Spots.{DiskFailed}
 use Rattle.mem_fabric.specs.Packing.{KeepsPacking}
 use Rattle.mem_fabric.specs.Past.{calls_of}
@@ -28,12 +28,10 @@ IsStopped s node s' = (s'.shape ≡ s.shape) × (s'.stopped ≡ s.stopped ++ nod
 abbrev pub RunsAgain : State → ℕ → State → Type 0
 RunsAgain s node s' = (s'.shape ≡ s.shape) × (s'.stopped ≡ filter (λ other. not (other == node)) s.stopped)
 
--- The bays are the same, no other disks are out than those of the replicas that are open and those that were before, and where the logs of all
--- disks at home were tidy, they still are.
-pub record KeepsBays {B D : Type 0} (bays_tell disks_tell : Type 0) (content : D → Content) (home : B → Home D) (out : B → Out) (same : B → B → Type 0) (nodes nodes' : NodesState B D) : Type 0 where
+-- The bays are the same, and no other disks are out than those of the replicas that are open and those that were before.
+pub record KeepsBays {B D : Type 0} (bays_tell : Type 0) (out : B → Out) (same : B → B → Type 0) (nodes nodes' : NodesState B D) : Type 0 where
   pub same_bays : same nodes.bays nodes'.bays
   pub own : bays_tell → (before : Out) → OnlyOwnOut out before nodes → OnlyOwnOut out before nodes'
-  pub tidy : disks_tell → AllTidy content home nodes.bays → AllTidy content home nodes'.bays
 
 -- where something is in doubt, some disk has failed in some call, if disks tell
 abbrev pub HasTornBy : {D : Type 0} → (tells : Type 0) → (faults : D → ℕ) → State → Type 0
@@ -47,5 +45,5 @@ module _ {B D : Type 0} (bays_tell disks_tell : Type 0) (content : D → Content
     pub of : AreNodesOf s' nodes'
     pub run : (shape : Shape) (folder : List ℕ) → KeepsRun (RunsFrom disks_tell content home (calls_of s.past) nodes shape folder) (RunsFrom disks_tell content home (calls_of s'.past) nodes' shape folder)
     pub packing : KeepsPacking disks_tell content home (calls_of s.past) nodes (calls_of s'.past) nodes'
-    pub bays : KeepsBays bays_tell disks_tell content home out same nodes nodes'
+    pub bays : KeepsBays bays_tell out same nodes nodes'
     pub torn : HasTornBy disks_tell faults s → HasTornBy disks_tell faults s'

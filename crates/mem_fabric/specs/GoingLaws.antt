@@ -7,12 +7,12 @@ use Rattle.mem_fabric.specs.Going.{KeepsBays}
 use Rattle.mem_fabric.specs.Packing.{KeepsPacking}
 use Rattle.world_model.specs.declared.step.Called.{Called}
 
-module _ {B D : Type 0} (bays_tell disks_tell : Type 0) (content : D → Content) (home : B → Home D) (out : B → Out) (same : B → B → Type 0) where
-  pub bays_stay : (nodes : NodesState B D) → same nodes.bays nodes.bays → KeepsBays bays_tell disks_tell content home out same nodes nodes
-  bays_stay nodes e = record { same_bays = e; own = λ t before own. own; tidy = λ t tidy. tidy }
+module _ {B D : Type 0} (bays_tell : Type 0) (out : B → Out) (same : B → B → Type 0) where
+  pub bays_stay : (nodes : NodesState B D) → same nodes.bays nodes.bays → KeepsBays bays_tell out same nodes nodes
+  bays_stay nodes e = record { same_bays = e; own = λ t before own. own }
 
-  pub bays_on : (a b c : NodesState B D) → (same a.bays b.bays → same b.bays c.bays → same a.bays c.bays) → KeepsBays bays_tell disks_tell content home out same a b → KeepsBays bays_tell disks_tell content home out same b c → KeepsBays bays_tell disks_tell content home out same a c
-  bays_on a b c joins p q = record { same_bays = joins p.same_bays q.same_bays; own = λ t before own. q.own t before (p.own t before own); tidy = λ t tidy. q.tidy t (p.tidy t tidy) }
+  pub bays_on : (a b c : NodesState B D) → (same a.bays b.bays → same b.bays c.bays → same a.bays c.bays) → KeepsBays bays_tell out same a b → KeepsBays bays_tell out same b c → KeepsBays bays_tell out same a c
+  bays_on a b c joins p q = record { same_bays = joins p.same_bays q.same_bays; own = λ t before own. q.own t before (p.own t before own) }
 
 module _ {B D : Type 0} (tells : Type 0) (content : D → Content) (home : B → Home D) where
   pub packing_stays : (calls : List Called) (nodes : NodesState B D) → KeepsPacking tells content home calls nodes calls nodes

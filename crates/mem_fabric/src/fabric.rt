@@ -3,7 +3,7 @@
 ghost use Rattle.std.specs.Prelude.{◌≡◌, ℕ, ◌≤◌, List, [], true, false, Some, None, IsSome, IfOk, OnOk, OnErr, IsErrOf, cond};
 ghost use Rattle.std.specs.Option.{is_some};
 ghost use Rattle.lab_nodes.specs.Layouts.{HomeHasLayouts, Layouts};
-ghost use Rattle.lab_nodes.specs.Nodes.{AllTidy, HomeHolds, is_up, never_opened};
+ghost use Rattle.lab_nodes.specs.Nodes.{HomeHolds, is_up, never_opened};
 ghost use Rattle.lab_nodes.specs.Spots.{DiskFailed, HasFailed};
 ghost use Rattle.lab_nodes.specs.Starting.{IsFirst};
 ghost use Rattle.lab_nodes.specs.declared.places.Which.{Which};
@@ -29,7 +29,6 @@ ghost use Rattle.world_model.specs.declared.fabric.SendFault.{SendFault};
 ghost use Rattle.world_model.specs.declared.fabric.StartFault.{StartFault};
 
 use crate::cluster::Cluster;
-use crate::handed::Handed;
 use blob_id::Memory;
 use disk_core::Bays;
 use lab_nodes::{LabNodes, NodesFault};
@@ -42,7 +41,6 @@ use world_model::{Event, Fabric, Moves, Order, SendFault, Shape, StartFault, Tol
 pub struct MemFabric<B: Bays, M> {
     cluster: Cluster,
     nodes: LabNodes<B>,
-    handed: Handed<B>,
     faults: u64,
     fresh: bool,
     opened: bool,
@@ -50,7 +48,6 @@ pub struct MemFabric<B: Bays, M> {
     ghost empty: { fresh ≡ true → cluster ≡ fresh_state },
     ghost closed: { fresh ≡ true → opened ≡ false },
     ghost unopened: { fresh ≡ true → nodes ≡ never_opened nodes.bays },
-    ghost kept: { fresh ≡ true → nodes.bays ≡ handed },
     ghost shaped: { opened ≡ true → is_some cluster.shape ≡ true },
     ghost of: { opened ≡ true → AreNodesOf cluster nodes },
     ghost torn: { HasTornBy B.Disk.tells B.Disk.faults cluster },
@@ -62,7 +59,6 @@ where
 {
     /// A network that was never opened, told no call and has all disks at home, with its schedule. It takes no memory.
     pub fn new(alloc: Global, bays: B, moves: M) -> MemFabric<B, M>
-        requires tidy { B.Disk.tells → AllTidy B.Disk.content B.home bays }
         ensures fresh { ⟦<MemFabric<B, M> as Fabric>⟧.fresh result ≡ true }
         ensures told { ⟦<MemFabric<B, M> as Fabric>⟧.told result ≡ Some [] }
         ensures moves { result.moves ≡ moves }
@@ -72,11 +68,9 @@ where
         ensures packs { (shape : Shape) (folder : List ℕ) (opening : Cells) (first : Layouts) → (B.Disk.tells → HomeHolds B.Disk.content B.home shape folder bays opening) → (B.Disk.tells → HomeHasLayouts B.Disk.content B.home shape folder bays first)
             → PacksFrom B.Disk.tells B.Disk.content B.home [] result.nodes shape folder opening first }
     {
-        let handed = Handed::of(&bays);
         MemFabric {
             cluster: Cluster::new(alloc),
             nodes: LabNodes::new(alloc, bays),
-            handed,
             faults: 0,
             fresh: true,
             opened: false,
@@ -92,7 +86,6 @@ where
         let MemFabric {
             cluster: _,
             nodes,
-            handed: _,
             faults: _,
             fresh: _,
             opened: _,
@@ -109,8 +102,8 @@ where
         ensures told { IfOk result (λ event. Tells (Some (calls_of self.old.cluster.past)) (Some (calls_of self.new.cluster.past)) (Gave event)) }
         ensures err { OnErr result (Some (calls_of self.new.cluster.past) ≡ Some (calls_of self.old.cluster.past)) }
         ensures run { (cluster : Shape) (place : List ℕ) → KeepsRun (RunsFrom B.Disk.tells B.Disk.content B.home (calls_of self.old.cluster.past) self.old.nodes cluster place) (RunsFrom B.Disk.tells B.Disk.content B.home (calls_of self.new.cluster.past) self.new.nodes cluster place) }
-        ensures goes { OnOk result (Plays (M.given self.old.moves) (network_of self.old.cluster) (M.given self.new.moves) (network_of self.new.cluster) × M.same self.old.moves self.new.moves × (M.seeds self.new.moves ≡ M.seeds self.old.moves) × KeepsBays B.tells B.Disk.tells B.Disk.content B.home B.out B.same self.old.nodes self.new.nodes × KeepsPacking B.Disk.tells B.Disk.content B.home (calls_of self.old.cluster.past) self.old.nodes (calls_of self.new.cluster.past) self.new.nodes) }
-        ensures falls { Falls (M.given self.old.moves) (network_of self.old.cluster) (M.given self.new.moves) (network_of self.new.cluster) × M.same self.old.moves self.new.moves × (M.seeds self.new.moves ≡ M.seeds self.old.moves) × KeepsBays B.tells B.Disk.tells B.Disk.content B.home B.out B.same self.old.nodes self.new.nodes × KeepsPacking B.Disk.tells B.Disk.content B.home (calls_of self.old.cluster.past) self.old.nodes (calls_of self.new.cluster.past) self.new.nodes }
+        ensures goes { OnOk result (Plays (M.given self.old.moves) (network_of self.old.cluster) (M.given self.new.moves) (network_of self.new.cluster) × M.same self.old.moves self.new.moves × (M.seeds self.new.moves ≡ M.seeds self.old.moves) × KeepsBays B.tells B.out B.same self.old.nodes self.new.nodes × KeepsPacking B.Disk.tells B.Disk.content B.home (calls_of self.old.cluster.past) self.old.nodes (calls_of self.new.cluster.past) self.new.nodes) }
+        ensures falls { Falls (M.given self.old.moves) (network_of self.old.cluster) (M.given self.new.moves) (network_of self.new.cluster) × M.same self.old.moves self.new.moves × (M.seeds self.new.moves ≡ M.seeds self.old.moves) × KeepsBays B.tells B.out B.same self.old.nodes self.new.nodes × KeepsPacking B.Disk.tells B.Disk.content B.home (calls_of self.old.cluster.past) self.old.nodes (calls_of self.new.cluster.past) self.new.nodes }
         ensures most { OnErr result (AtMostOne (M.given self.old.moves) (M.given self.new.moves)) }
         ensures count { self.new.faults ≡ self.old.faults }
     {
@@ -145,9 +138,9 @@ where
 
     ghost runs = { λ f shape folder opening. RunsFrom B.Disk.tells B.Disk.content B.home (calls_of f.cluster.past) f.nodes shape folder opening };
 
-    ghost goes = { λ f g. Plays (M.given f.moves) (network_of f.cluster) (M.given g.moves) (network_of g.cluster) × M.same f.moves g.moves × (M.seeds g.moves ≡ M.seeds f.moves) × KeepsBays B.tells B.Disk.tells B.Disk.content B.home B.out B.same f.nodes g.nodes × KeepsPacking B.Disk.tells B.Disk.content B.home (calls_of f.cluster.past) f.nodes (calls_of g.cluster.past) g.nodes };
+    ghost goes = { λ f g. Plays (M.given f.moves) (network_of f.cluster) (M.given g.moves) (network_of g.cluster) × M.same f.moves g.moves × (M.seeds g.moves ≡ M.seeds f.moves) × KeepsBays B.tells B.out B.same f.nodes g.nodes × KeepsPacking B.Disk.tells B.Disk.content B.home (calls_of f.cluster.past) f.nodes (calls_of g.cluster.past) g.nodes };
 
-    ghost falls = { λ f g. Falls (M.given f.moves) (network_of f.cluster) (M.given g.moves) (network_of g.cluster) × M.same f.moves g.moves × (M.seeds g.moves ≡ M.seeds f.moves) × KeepsBays B.tells B.Disk.tells B.Disk.content B.home B.out B.same f.nodes g.nodes × KeepsPacking B.Disk.tells B.Disk.content B.home (calls_of f.cluster.past) f.nodes (calls_of g.cluster.past) g.nodes };
+    ghost falls = { λ f g. Falls (M.given f.moves) (network_of f.cluster) (M.given g.moves) (network_of g.cluster) × M.same f.moves g.moves × (M.seeds g.moves ≡ M.seeds f.moves) × KeepsBays B.tells B.out B.same f.nodes g.nodes × KeepsPacking B.Disk.tells B.Disk.content B.home (calls_of f.cluster.past) f.nodes (calls_of g.cluster.past) g.nodes };
 
     /// Opens it for a shape whose disks lie in a folder, all or none: the first disk that isn't opened decides, by node and then by
     /// partition. It is tried once.
@@ -160,8 +153,8 @@ where
         ensures told { OnOk result (Tells (Some (calls_of self.old.cluster.past)) (Some (calls_of self.new.cluster.past)) DidNothing) }
         ensures err { OnErr result (Some (calls_of self.new.cluster.past) ≡ Some (calls_of self.old.cluster.past)) }
         ensures run { OnOk result (KeepsRun (RunsFrom B.Disk.tells B.Disk.content B.home (calls_of self.old.cluster.past) self.old.nodes shape.now folder.now) (RunsFrom B.Disk.tells B.Disk.content B.home (calls_of self.new.cluster.past) self.new.nodes shape.now folder.now)) }
-        ensures goes { OnOk result (Plays (M.given self.old.moves) (network_of self.old.cluster) (M.given self.new.moves) (network_of self.new.cluster) × M.same self.old.moves self.new.moves × (M.seeds self.new.moves ≡ M.seeds self.old.moves) × KeepsBays B.tells B.Disk.tells B.Disk.content B.home B.out B.same self.old.nodes self.new.nodes × KeepsPacking B.Disk.tells B.Disk.content B.home (calls_of self.old.cluster.past) self.old.nodes (calls_of self.new.cluster.past) self.new.nodes) }
-        ensures falls { Falls (M.given self.old.moves) (network_of self.old.cluster) (M.given self.new.moves) (network_of self.new.cluster) × M.same self.old.moves self.new.moves × (M.seeds self.new.moves ≡ M.seeds self.old.moves) × KeepsBays B.tells B.Disk.tells B.Disk.content B.home B.out B.same self.old.nodes self.new.nodes × KeepsPacking B.Disk.tells B.Disk.content B.home (calls_of self.old.cluster.past) self.old.nodes (calls_of self.new.cluster.past) self.new.nodes }
+        ensures goes { OnOk result (Plays (M.given self.old.moves) (network_of self.old.cluster) (M.given self.new.moves) (network_of self.new.cluster) × M.same self.old.moves self.new.moves × (M.seeds self.new.moves ≡ M.seeds self.old.moves) × KeepsBays B.tells B.out B.same self.old.nodes self.new.nodes × KeepsPacking B.Disk.tells B.Disk.content B.home (calls_of self.old.cluster.past) self.old.nodes (calls_of self.new.cluster.past) self.new.nodes) }
+        ensures falls { Falls (M.given self.old.moves) (network_of self.old.cluster) (M.given self.new.moves) (network_of self.new.cluster) × M.same self.old.moves self.new.moves × (M.seeds self.new.moves ≡ M.seeds self.old.moves) × KeepsBays B.tells B.out B.same self.old.nodes self.new.nodes × KeepsPacking B.Disk.tells B.Disk.content B.home (calls_of self.old.cluster.past) self.old.nodes (calls_of self.new.cluster.past) self.new.nodes }
         ensures count { (IsErrOf result StartFault.Failed → ⊥) → self.new.faults ≡ self.old.faults }
         ensures failed { IsErrOf result StartFault.Failed → HasFailed B.Disk.faults (B.faults self.old.nodes.bays) (B.faults self.new.nodes.bays) }
         ensures refused { (refusal : Refusal) → IsErrOf result (StartFault.Refused refusal) → B.tells → IsFirst B.Disk.tells B.Disk.content B.Disk.size Which.All shape.now folder.now (B.home self.old.nodes.bays) refusal }
@@ -172,7 +165,6 @@ where
         ensures unmoved { OnErr result (self.new.moves ≡ self.old.moves) }
         ensures later_bays { B.faults self.old.nodes.bays ≤ B.faults self.new.nodes.bays }
     {
-        self.handed.look();
         self.fresh = false;
         match self.nodes.open(shape, folder) {
             Ok(()) => {
@@ -197,8 +189,8 @@ where
         ensures opened { cond self.new.opened self.new.cluster.shape None ≡ cond self.old.opened self.old.cluster.shape None }
         ensures told { TellsSend result (Some (calls_of self.old.cluster.past)) (Some (calls_of self.new.cluster.past)) node frame.now }
         ensures run { (cluster : Shape) (place : List ℕ) → KeepsRun (RunsFrom B.Disk.tells B.Disk.content B.home (calls_of self.old.cluster.past) self.old.nodes cluster place) (RunsFrom B.Disk.tells B.Disk.content B.home (calls_of self.new.cluster.past) self.new.nodes cluster place) }
-        ensures goes { (IsErrOf result SendFault.Memory → ⊥) → Plays (M.given self.old.moves) (network_of self.old.cluster) (M.given self.new.moves) (network_of self.new.cluster) × M.same self.old.moves self.new.moves × (M.seeds self.new.moves ≡ M.seeds self.old.moves) × KeepsBays B.tells B.Disk.tells B.Disk.content B.home B.out B.same self.old.nodes self.new.nodes × KeepsPacking B.Disk.tells B.Disk.content B.home (calls_of self.old.cluster.past) self.old.nodes (calls_of self.new.cluster.past) self.new.nodes }
-        ensures falls { Falls (M.given self.old.moves) (network_of self.old.cluster) (M.given self.new.moves) (network_of self.new.cluster) × M.same self.old.moves self.new.moves × (M.seeds self.new.moves ≡ M.seeds self.old.moves) × KeepsBays B.tells B.Disk.tells B.Disk.content B.home B.out B.same self.old.nodes self.new.nodes × KeepsPacking B.Disk.tells B.Disk.content B.home (calls_of self.old.cluster.past) self.old.nodes (calls_of self.new.cluster.past) self.new.nodes }
+        ensures goes { (IsErrOf result SendFault.Memory → ⊥) → Plays (M.given self.old.moves) (network_of self.old.cluster) (M.given self.new.moves) (network_of self.new.cluster) × M.same self.old.moves self.new.moves × (M.seeds self.new.moves ≡ M.seeds self.old.moves) × KeepsBays B.tells B.out B.same self.old.nodes self.new.nodes × KeepsPacking B.Disk.tells B.Disk.content B.home (calls_of self.old.cluster.past) self.old.nodes (calls_of self.new.cluster.past) self.new.nodes }
+        ensures falls { Falls (M.given self.old.moves) (network_of self.old.cluster) (M.given self.new.moves) (network_of self.new.cluster) × M.same self.old.moves self.new.moves × (M.seeds self.new.moves ≡ M.seeds self.old.moves) × KeepsBays B.tells B.out B.same self.old.nodes self.new.nodes × KeepsPacking B.Disk.tells B.Disk.content B.home (calls_of self.old.cluster.past) self.old.nodes (calls_of self.new.cluster.past) self.new.nodes }
         ensures refused { IsErrOf result SendFault.Failed → is_stopped (network_of self.old.cluster) node ≡ true }
         ensures ok { OnOk result (is_stopped (network_of self.old.cluster) node ≡ false) }
         ensures count { (IsErrOf result SendFault.Failed → ⊥) → self.new.faults ≡ self.old.faults }
@@ -228,8 +220,8 @@ where
         ensures told { IfOk result (λ event. Tells (Some (calls_of self.old.cluster.past)) (Some (calls_of self.new.cluster.past)) (Gave event)) }
         ensures err { OnErr result (Some (calls_of self.new.cluster.past) ≡ Some (calls_of self.old.cluster.past)) }
         ensures run { (cluster : Shape) (place : List ℕ) → KeepsRun (RunsFrom B.Disk.tells B.Disk.content B.home (calls_of self.old.cluster.past) self.old.nodes cluster place) (RunsFrom B.Disk.tells B.Disk.content B.home (calls_of self.new.cluster.past) self.new.nodes cluster place) }
-        ensures goes { OnOk result (Plays (M.given self.old.moves) (network_of self.old.cluster) (M.given self.new.moves) (network_of self.new.cluster) × M.same self.old.moves self.new.moves × (M.seeds self.new.moves ≡ M.seeds self.old.moves) × KeepsBays B.tells B.Disk.tells B.Disk.content B.home B.out B.same self.old.nodes self.new.nodes × KeepsPacking B.Disk.tells B.Disk.content B.home (calls_of self.old.cluster.past) self.old.nodes (calls_of self.new.cluster.past) self.new.nodes) }
-        ensures falls { Falls (M.given self.old.moves) (network_of self.old.cluster) (M.given self.new.moves) (network_of self.new.cluster) × M.same self.old.moves self.new.moves × (M.seeds self.new.moves ≡ M.seeds self.old.moves) × KeepsBays B.tells B.Disk.tells B.Disk.content B.home B.out B.same self.old.nodes self.new.nodes × KeepsPacking B.Disk.tells B.Disk.content B.home (calls_of self.old.cluster.past) self.old.nodes (calls_of self.new.cluster.past) self.new.nodes }
+        ensures goes { OnOk result (Plays (M.given self.old.moves) (network_of self.old.cluster) (M.given self.new.moves) (network_of self.new.cluster) × M.same self.old.moves self.new.moves × (M.seeds self.new.moves ≡ M.seeds self.old.moves) × KeepsBays B.tells B.out B.same self.old.nodes self.new.nodes × KeepsPacking B.Disk.tells B.Disk.content B.home (calls_of self.old.cluster.past) self.old.nodes (calls_of self.new.cluster.past) self.new.nodes) }
+        ensures falls { Falls (M.given self.old.moves) (network_of self.old.cluster) (M.given self.new.moves) (network_of self.new.cluster) × M.same self.old.moves self.new.moves × (M.seeds self.new.moves ≡ M.seeds self.old.moves) × KeepsBays B.tells B.out B.same self.old.nodes self.new.nodes × KeepsPacking B.Disk.tells B.Disk.content B.home (calls_of self.old.cluster.past) self.old.nodes (calls_of self.new.cluster.past) self.new.nodes }
         ensures most { OnErr result (AtMostOne (M.given self.old.moves) (M.given self.new.moves)) }
         ensures count { self.new.faults ≡ self.old.faults }
     {
@@ -248,8 +240,8 @@ where
         ensures opened { cond self.new.opened self.new.cluster.shape None ≡ cond self.old.opened self.old.cluster.shape None }
         ensures told { TellsOrder result (Some (calls_of self.old.cluster.past)) (Some (calls_of self.new.cluster.past)) order.now }
         ensures run { (cluster : Shape) (place : List ℕ) → KeepsRun (RunsFrom B.Disk.tells B.Disk.content B.home (calls_of self.old.cluster.past) self.old.nodes cluster place) (RunsFrom B.Disk.tells B.Disk.content B.home (calls_of self.new.cluster.past) self.new.nodes cluster place) }
-        ensures goes { (IsErrOf result SendFault.Memory → ⊥) → Plays (M.given self.old.moves) (network_of self.old.cluster) (M.given self.new.moves) (network_of self.new.cluster) × M.same self.old.moves self.new.moves × (M.seeds self.new.moves ≡ M.seeds self.old.moves) × KeepsBays B.tells B.Disk.tells B.Disk.content B.home B.out B.same self.old.nodes self.new.nodes × KeepsPacking B.Disk.tells B.Disk.content B.home (calls_of self.old.cluster.past) self.old.nodes (calls_of self.new.cluster.past) self.new.nodes }
-        ensures falls { Falls (M.given self.old.moves) (network_of self.old.cluster) (M.given self.new.moves) (network_of self.new.cluster) × M.same self.old.moves self.new.moves × (M.seeds self.new.moves ≡ M.seeds self.old.moves) × KeepsBays B.tells B.Disk.tells B.Disk.content B.home B.out B.same self.old.nodes self.new.nodes × KeepsPacking B.Disk.tells B.Disk.content B.home (calls_of self.old.cluster.past) self.old.nodes (calls_of self.new.cluster.past) self.new.nodes }
+        ensures goes { (IsErrOf result SendFault.Memory → ⊥) → Plays (M.given self.old.moves) (network_of self.old.cluster) (M.given self.new.moves) (network_of self.new.cluster) × M.same self.old.moves self.new.moves × (M.seeds self.new.moves ≡ M.seeds self.old.moves) × KeepsBays B.tells B.out B.same self.old.nodes self.new.nodes × KeepsPacking B.Disk.tells B.Disk.content B.home (calls_of self.old.cluster.past) self.old.nodes (calls_of self.new.cluster.past) self.new.nodes }
+        ensures falls { Falls (M.given self.old.moves) (network_of self.old.cluster) (M.given self.new.moves) (network_of self.new.cluster) × M.same self.old.moves self.new.moves × (M.seeds self.new.moves ≡ M.seeds self.old.moves) × KeepsBays B.tells B.out B.same self.old.nodes self.new.nodes × KeepsPacking B.Disk.tells B.Disk.content B.home (calls_of self.old.cluster.past) self.old.nodes (calls_of self.new.cluster.past) self.new.nodes }
         ensures never { IsErrOf result SendFault.Failed → ⊥ }
         ensures stuck { IfOk result (λ answer. answer ≡ Told.Stuck PullCause.Fault → HasFailed B.Disk.faults (B.faults self.old.nodes.bays) (B.faults self.new.nodes.bays)) }
         ensures later_bays { B.faults self.old.nodes.bays ≤ B.faults self.new.nodes.bays }
@@ -272,7 +264,7 @@ where
         ensures opened { cond self.new.opened self.new.cluster.shape None ≡ None }
         ensures told { Some (calls_of self.new.cluster.past) ≡ Some (calls_of self.old.cluster.past) }
         ensures run { (cluster : Shape) (place : List ℕ) → KeepsRun (RunsFrom B.Disk.tells B.Disk.content B.home (calls_of self.old.cluster.past) self.old.nodes cluster place) (RunsFrom B.Disk.tells B.Disk.content B.home (calls_of self.new.cluster.past) self.new.nodes cluster place) }
-        ensures goes { Plays (M.given self.old.moves) (network_of self.old.cluster) (M.given self.new.moves) (network_of self.new.cluster) × M.same self.old.moves self.new.moves × (M.seeds self.new.moves ≡ M.seeds self.old.moves) × KeepsBays B.tells B.Disk.tells B.Disk.content B.home B.out B.same self.old.nodes self.new.nodes × KeepsPacking B.Disk.tells B.Disk.content B.home (calls_of self.old.cluster.past) self.old.nodes (calls_of self.new.cluster.past) self.new.nodes }
+        ensures goes { Plays (M.given self.old.moves) (network_of self.old.cluster) (M.given self.new.moves) (network_of self.new.cluster) × M.same self.old.moves self.new.moves × (M.seeds self.new.moves ≡ M.seeds self.old.moves) × KeepsBays B.tells B.out B.same self.old.nodes self.new.nodes × KeepsPacking B.Disk.tells B.Disk.content B.home (calls_of self.old.cluster.past) self.old.nodes (calls_of self.new.cluster.past) self.new.nodes }
         ensures count { self.new.faults ≡ self.old.faults }
         ensures home { (n p : ℕ) → is_up self.new.nodes n p ≡ false }
         ensures torn { has_torn (calls_of self.new.cluster.past) ≡ true → B.Disk.tells → ∥ DiskFailed B.Disk.faults ∥₁ }
@@ -286,13 +278,13 @@ where
 
     ghost runs_by_rules = { λ a cluster place opening k r. (r k.0 k.1).run };
 
-    ghost goes_nowhere = { λ f. (plays_nothing (M.given f.moves) (network_of f.cluster), M.same_self f.moves, refl, bays_stay B.tells B.Disk.tells B.Disk.content B.home B.out B.same f.nodes (B.same_self f.nodes.bays), packing_stays B.Disk.tells B.Disk.content B.home (calls_of f.cluster.past) f.nodes) };
+    ghost goes_nowhere = { λ f. (plays_nothing (M.given f.moves) (network_of f.cluster), M.same_self f.moves, refl, bays_stay B.tells B.out B.same f.nodes (B.same_self f.nodes.bays), packing_stays B.Disk.tells B.Disk.content B.home (calls_of f.cluster.past) f.nodes) };
 
     ghost goes_on = { λ f g h p q. (
       plays_on (M.given f.moves) (network_of f.cluster) (M.given g.moves) (network_of g.cluster) (M.given h.moves) (network_of h.cluster) p.0 q.0,
       M.same_on f.moves g.moves h.moves p.1 q.1,
       q.2 ∙ p.2,
-      bays_on B.tells B.Disk.tells B.Disk.content B.home B.out B.same f.nodes g.nodes h.nodes (B.same_on f.nodes.bays g.nodes.bays h.nodes.bays) p.3 q.3,
+      bays_on B.tells B.out B.same f.nodes g.nodes h.nodes (B.same_on f.nodes.bays g.nodes.bays h.nodes.bays) p.3 q.3,
       packing_on B.Disk.tells B.Disk.content B.home (calls_of f.cluster.past) f.nodes (calls_of g.cluster.past) g.nodes (calls_of h.cluster.past) h.nodes p.4 q.4,
     ) };
 
@@ -302,7 +294,7 @@ where
       falls_on (M.given f.moves) (network_of f.cluster) (M.given g.moves) (network_of g.cluster) (M.given h.moves) (network_of h.cluster) p.0 q.0,
       M.same_on f.moves g.moves h.moves p.1 q.1,
       q.2 ∙ p.2,
-      bays_on B.tells B.Disk.tells B.Disk.content B.home B.out B.same f.nodes g.nodes h.nodes (B.same_on f.nodes.bays g.nodes.bays h.nodes.bays) p.3 q.3,
+      bays_on B.tells B.out B.same f.nodes g.nodes h.nodes (B.same_on f.nodes.bays g.nodes.bays h.nodes.bays) p.3 q.3,
       packing_on B.Disk.tells B.Disk.content B.home (calls_of f.cluster.past) f.nodes (calls_of g.cluster.past) g.nodes (calls_of h.cluster.past) h.nodes p.4 q.4,
     ) };
 }

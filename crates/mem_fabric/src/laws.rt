@@ -24,5 +24,5 @@ where
         → ⟦<MemFabric<B, M> as Fabric>⟧.opened b ≡ Some shape
         → ⟦<MemFabric<B, M> as Fabric>⟧.goes b d
         → ⟦<MemFabric<B, M> as Fabric>⟧.told d ≡ Some calls
-        → (moves : List Move) × (M.given d.moves ≡ M.given a.moves ++ moves) × IsPlayed shape moves calls × (M.seeds d.moves ≡ M.seeds a.moves) × KeepsBays B.tells B.Disk.tells B.Disk.content B.home B.out B.same a.nodes d.nodes }
+        → (moves : List Move) × (M.given d.moves ≡ M.given a.moves ++ moves) × IsPlayed shape moves calls × (M.seeds d.moves ≡ M.seeds a.moves) × KeepsBays B.tells B.out B.same a.nodes d.nodes }
 {}

@@ -47,7 +47,6 @@ mod asking;
 mod cluster;
 mod fabric;
 mod flight;
-mod handed;
 mod laws;
 mod past;
 

@@ -10,7 +10,7 @@ use Rattle.msg_format.specs.declared.record.Record.{Record}
 use Rattle.msg_format.specs.Records.{id_of, head_of, is_gone, spelling_of}
 use Rattle.replica_core.specs.declared.index.Spot.{Spot}
 use Rattle.replica_core.specs.Maps.{is_same}
-use Rattle.replica_core.specs.Index.{spot_in, spot_for, SetsSpot}
+use Rattle.replica_core.specs.Index.{spot_in, spot_set, SetsSpot}
 use Rattle.replica_core.proofs.Ids.{same_one, one_same}
 
 -- an id whose spot was set has one
@@ -27,7 +27,7 @@ set_over false first second other = refl
 -- a spot that was reserved and then settled
 pub settled : (id : List ℕ) (spot : Spot) (entry : Record) (place : ℕ) (gone : Bool) (old mid new : List (List ℕ × Spot)) → id ≡ id_of entry → gone ≡ is_gone entry
     → SetsSpot id (Some spot) old mid → SetsSpot id (Some (record { place = place; gone = gone })) mid new
-    → (other : List ℕ) → spot_in new other ≡ spot_for (record { place = place; head = head_of entry (spelling_of entry) }) other (spot_in old other)
+    → (other : List ℕ) → spot_in new other ≡ spot_set (record { place = place; head = head_of entry (spelling_of entry) }) other (spot_in old other)
 settled id spot entry place gone old mid new id_is gone_is first second other =
     second other
     ∙ ap (λ (o : Option Spot). if is_same id other then Some (record { place = place; gone = gone }) else o) (first other)

@@ -1,6 +1,5 @@
 -- The index of a log, and the cells that its spots stand for.
-use Rattle.std.proofs.Common.{◌≡◌, ◌≢◌, ◌⊎◌, inl, inr, ⊎_elim, ℕ, List, [], ◌∷◌, ◌++◌, length, drop, Bool, true, false, if◌then◌else◌, Option, Some, None, refl, sym, ◌∙◌, ap, subst, take-append-drop}
-use Rattle.std.specs.List.{AllByRecursion}
+use Rattle.std.proofs.Common.{◌≡◌, ◌⊎◌, inl, inr, ⊎_elim, ℕ, List, [], ◌∷◌, ◌++◌, length, drop, Bool, true, false, if◌then◌else◌, Option, Some, None, refl, sym, ◌∙◌, ap, subst, take-append-drop}
 use Rattle.std.specs.Ordering.{nat_cmp}
 use Rattle.std.specs.Cmp.Lexicographic.{slice_cmp}
 use Rattle.std.specs.Map.{lookup}
@@ -21,25 +20,25 @@ use Rattle.part_log.specs.Records.{Placed, IsPlaced, records_of}
 use Rattle.part_log.specs.Scan.{found_of}
 use Rattle.part_log.specs.Log.{IsVisible, AllVisible}
 use Rattle.replica_core.specs.declared.index.Spot.{Spot}
-use Rattle.replica_core.specs.Maps.{is_same, cell_of, cell_from, AllowsBehind, AreTidy}
-use Rattle.replica_core.specs.Index.{spot_in, spot_of, spot_for, newest_or, newest, blob_cell, spot_cell, cells_of}
+use Rattle.replica_core.specs.Maps.{is_same, cell_of, cell_for, cell_from, MayCome}
+use Rattle.replica_core.specs.Index.{spot_in, spot_for, noted_behind, noted_or, noted, blob_cell, spot_cell, cells_of}
 use Rattle.replica_core.proofs.Ids.{same_one, cell_for-here, cell_for-apart}
-use Rattle.replica_core.proofs.Maps.{join_absent, join_assoc}
+use Rattle.replica_core.proofs.Maps.{join_absent, join_assoc, join_gone}
 
 -- one record more is noted last
-pub newest-one : (before : Option Spot) (found : List Found) (one : Found) (id : List ℕ) → newest_or before (found ++ one ∷ []) id ≡ spot_for one id (newest_or before found id)
-newest-one before [] one id = refl
-newest-one before (x ∷ found) one id = newest-one (spot_for x id before) found one id
+pub noted-one : (before : Option Spot) (found : List Found) (one : Found) (id : List ℕ) → noted_or before (found ++ one ∷ []) id ≡ spot_for one id (noted_or before found id)
+noted-one before [] one id = refl
+noted-one before (x ∷ found) one id = noted-one (spot_for x id before) found one id
 
 pub found_of-one : (placed : List Placed) (p : Placed) → found_of (placed ++ p ∷ []) ≡ found_of placed ++ record { place = p.place; head = head_of p.entry p.text } ∷ []
 found_of-one [] p = refl
 found_of-one (q ∷ placed) p = ap (λ (l : List Found). record { place = q.place; head = head_of q.entry q.text } ∷ l) (found_of-one placed p)
 
-pub spot_for-here : (one : Found) (id : List ℕ) (other : Option Spot) → is_same one.head.id id ≡ true → spot_for one id other ≡ Some (spot_of one)
-spot_for-here one id other is = ap (λ (b : Bool). if b then Some (spot_of one) else other) is
+pub spot_for-here : (one : Found) (id : List ℕ) (before : Option Spot) → is_same one.head.id id ≡ true → spot_for one id before ≡ noted_behind one before
+spot_for-here one id before is = ap (λ (b : Bool). if b then noted_behind one before else before) is
 
-pub spot_for-apart : (one : Found) (id : List ℕ) (other : Option Spot) → is_same one.head.id id ≡ false → spot_for one id other ≡ other
-spot_for-apart one id other is = ap (λ (b : Bool). if b then Some (spot_of one) else other) is
+pub spot_for-apart : (one : Found) (id : List ℕ) (before : Option Spot) → is_same one.head.id id ≡ false → spot_for one id before ≡ before
+spot_for-apart one id before is = ap (λ (b : Bool). if b then noted_behind one before else before) is
 
 -- the cell that a spot stands for, or absent where there is none
 abbrev pub cell_at_spot : List ℕ → Option Spot → Cell
@@ -73,73 +72,96 @@ cell_read (Delete lsn id created) place bytes rest is = refl
 pub spot_brings : (settings : LogSettings) (bytes : List ℕ) (p : Placed) → IsVisible settings bytes p → spot_cell bytes (record { place = p.place; gone = is_gone p.entry }) ≡ cell_of p.entry
 spot_brings settings bytes p visible = cell_read p.entry p.place bytes (drop (length p.text) (drop p.place bytes)) (read_there settings bytes p visible)
 
--- records that may stand behind those that gave this cell
-abbrev Admits : Cell → List ℕ → List Record → Type 0
-Admits Absent id records = Unit {0}
-Admits (Held blob) id records = AllByRecursion (λ (r : Record). id ≡ id_of r → is_gone r ≡ true) records
-Admits Gone id records = AllByRecursion (λ (r : Record). id ≢ id_of r) records
+-- what is noted as a put stands for a blob
+abbrev pub IsClear : List ℕ → Option Spot → Type 0
+IsClear bytes None = Unit {0}
+IsClear bytes (Some spot) = spot.gone ≡ false → (blob : Blob) × (spot_cell bytes spot ≡ Held blob)
 
-admits_rest : (cell : Cell) (id : List ℕ) (r : Record) (records : List Record) → Admits cell id (r ∷ records) → Admits cell id records
-admits_rest Absent id r records admits = tt
-admits_rest (Held b) id r records admits = admits.1
-admits_rest Gone id r records admits = admits.1
+gone_spot : (bytes : List ℕ) (spot : Spot) → spot.gone ≡ true → spot_cell bytes spot ≡ Gone
+gone_spot bytes spot gone = ap (λ (b : Bool). if b then Gone else blob_cell (record_at (drop spot.place bytes))) gone
 
-deletes_behind : (lsn : ℕ) (id : List ℕ) (blob : Blob) (records : List Record) → AllByRecursion (AllowsBehind (Put lsn id blob)) records → AllByRecursion (λ (r : Record). id ≡ id_of r → is_gone r ≡ true) records
-deletes_behind lsn id blob [] all = tt
-deletes_behind lsn id blob (r ∷ records) all = ((λ same. (all.0 same).1), deletes_behind lsn id blob records all.1)
+-- what a record's own spot stands for, and what is noted where it stands behind others
+abbrev own_spot : Record → ℕ → Spot
+own_spot r place = record { place = place; gone = is_gone r }
 
-none_behind : (lsn : ℕ) (id : List ℕ) (created : ℕ) (records : List Record) → AllByRecursion (AllowsBehind (Delete lsn id created)) records → AllByRecursion (λ (r : Record). id ≢ id_of r) records
-none_behind lsn id created [] all = tt
-none_behind lsn id created (r ∷ records) all = ((λ same. absurd (cc ((all.0 same).0))), none_behind lsn id created records all.1)
+abbrev behind : Record → List ℕ → ℕ → Option Spot → Option Spot
+behind r text place before = noted_behind (record { place = place; head = head_of r text }) before
 
-admits_behind : (r : Record) (records : List Record) → AllByRecursion (AllowsBehind r) records → Admits (cell_of r) (id_of r) records
-admits_behind (Put lsn id blob) records all = deletes_behind lsn id blob records all
-admits_behind (Delete lsn id created) records all = none_behind lsn id created records all
+own_clear : (bytes : List ℕ) (r : Record) (place : ℕ) → spot_cell bytes (own_spot r place) ≡ cell_of r → IsClear bytes (Some (own_spot r place))
+own_clear bytes (Put lsn id blob) place brings = λ up. (blob, brings)
+own_clear bytes (Delete lsn id created) place brings = λ up. absurd (cc up)
 
--- what a record brings is the join of the cell before it and what it brings
-brought_up : (cell : Cell) (id : List ℕ) (r : Record) (records : List Record) → Admits cell id (r ∷ records) → id ≡ id_of r → cell_of r ≡ join cell (cell_of r)
-brought_up Absent id r records admits same = refl
-brought_up (Held b) id (Put lsn other blob) records admits same = absurd (cc (admits.0 same))
-brought_up (Held b) id (Delete lsn other created) records admits same = refl
-brought_up Gone id r records admits same = absurd (admits.0 same)
+-- a put behind what is noted leaves it
+put_leaves : (bytes : List ℕ) (spot : Spot) (blob : Blob) → IsClear bytes (Some spot) → spot_cell bytes spot ≡ join (spot_cell bytes spot) (Held blob)
+put_leaves bytes spot blob clear = ⊎_elim
+    (λ (gone : spot.gone ≡ true). subst (λ (c : Cell). c ≡ join c (Held blob)) (sym (gone_spot bytes spot gone)) refl)
+    (λ (up : spot.gone ≡ false). subst (λ (c : Cell). c ≡ join c (Held blob)) (sym ((clear up).1)) refl)
+    (cases_Bool spot.gone)
+
+-- what is noted behind a record stands for the join of the cell before it and what it brings
+behind_joins : (bytes : List ℕ) (r : Record) (text : List ℕ) (place : ℕ) (before : Option Spot) → spot_cell bytes (own_spot r place) ≡ cell_of r → IsClear bytes before
+    → (cell_at_spot bytes (behind r text place before) ≡ join (cell_at_spot bytes before) (cell_of r)) × IsClear bytes (behind r text place before)
+behind_joins bytes r text place None brings clear = (brings, own_clear bytes r place brings)
+behind_joins bytes (Put lsn id blob) text place (Some spot) brings clear = (put_leaves bytes spot blob clear, clear)
+behind_joins bytes (Delete lsn id created) text place (Some spot) brings clear = (sym (join_gone (spot_cell bytes spot)), own_clear bytes (Delete lsn id created) place brings)
 
 all_behind : (settings : LogSettings) (bytes : List ℕ) (p : Placed) (placed : List Placed) → AllVisible settings bytes (p ∷ placed) → AllVisible settings bytes placed
 all_behind settings bytes p placed visible q there = visible q (inr there)
 
--- the newest record stands for the join of all
-newest_joins : (settings : LogSettings) (bytes : List ℕ) (before : Option Spot) (placed : List Placed) (id : List ℕ) → AllVisible settings bytes placed → AreTidy (records_of placed) → Admits (cell_at_spot bytes before) id (records_of placed)
-    → cell_at_spot bytes (newest_or before (found_of placed) id) ≡ join (cell_at_spot bytes before) (cell_from (records_of placed) id)
-newest_joins settings bytes before [] id visible tidy admits = sym (join_absent (cell_at_spot bytes before))
-newest_joins settings bytes before (p ∷ placed) id visible tidy admits =
+-- one record more, for any id
+one_joins : (settings : LogSettings) (bytes : List ℕ) (before : Option Spot) (p : Placed) (id : List ℕ) → IsVisible settings bytes p → IsClear bytes before
+    → (cell_at_spot bytes (spot_for (record { place = p.place; head = head_of p.entry p.text }) id before) ≡ join (cell_at_spot bytes before) (cell_for id (id_of p.entry) (cell_of p.entry)))
+    × IsClear bytes (spot_for (record { place = p.place; head = head_of p.entry p.text }) id before)
+one_joins settings bytes before p id visible clear =
     let r : Record = p.entry in
     let found : Found = record { place = p.place; head = head_of r p.text } in
-    let cell : Cell = cell_at_spot bytes before in
-    let rest : Cell = cell_from (records_of placed) id in
+    let by = behind_joins bytes r p.text p.place before (spot_brings settings bytes p visible) clear in
     ⊎_elim
     (λ (is : is_same (id_of r) id ≡ true).
-    let same : id ≡ id_of r = sym (same_one (id_of r) id is) in
-    let noted : spot_for found id before ≡ Some (record { place = p.place; gone = is_gone r }) = spot_for-here found id before is in
-    let brings : cell_at_spot bytes (spot_for found id before) ≡ cell_of r = ap (cell_at_spot bytes) noted ∙ spot_brings settings bytes p (visible p (inl refl)) in
-    let admits_next : Admits (cell_at_spot bytes (spot_for found id before)) id (records_of placed) =
-    subst (λ (c : Cell). Admits c id (records_of placed)) (sym brings) (subst (λ (k : List ℕ). Admits (cell_of r) k (records_of placed)) (sym same) (admits_behind r (records_of placed) tidy.0)) in
-    newest_joins settings bytes (spot_for found id before) placed id (all_behind settings bytes p placed visible) tidy.1 admits_next
-    ∙ ap (λ (c : Cell). join c rest) (brings ∙ brought_up cell id r (records_of placed) admits same)
-    ∙ join_assoc cell (cell_of r) rest
-    ∙ ap (λ (c : Cell). join cell (join c rest)) (sym (cell_for-here id (id_of r) (cell_of r) is)))
+    let noted : spot_for found id before ≡ behind r p.text p.place before = spot_for-here found id before is in (
+      ap (cell_at_spot bytes) noted ∙ by.0 ∙ ap (λ (c : Cell). join (cell_at_spot bytes before) c) (sym (cell_for-here id (id_of r) (cell_of r) is)),
+      subst (IsClear bytes) (sym noted) by.1,
+    ))
     (λ (is : is_same (id_of r) id ≡ false).
-    let noted : spot_for found id before ≡ before = spot_for-apart found id before is in
-    ap (λ (o : Option Spot). cell_at_spot bytes (newest_or o (found_of placed) id)) noted
-    ∙ newest_joins settings bytes before placed id (all_behind settings bytes p placed visible) tidy.1 (admits_rest cell id r (records_of placed) admits)
-    ∙ ap (λ (c : Cell). join cell (join c rest)) (sym (cell_for-apart id (id_of r) (cell_of r) is)))
+    let noted : spot_for found id before ≡ before = spot_for-apart found id before is in (
+      ap (cell_at_spot bytes) noted ∙ sym (join_absent (cell_at_spot bytes before)) ∙ ap (λ (c : Cell). join (cell_at_spot bytes before) c) (sym (cell_for-apart id (id_of r) (cell_of r) is)),
+      subst (IsClear bytes) (sym noted) clear,
+    ))
     (cases_Bool (is_same (id_of r) id))
 
--- so the index of tidy records stands for their cells
-pub index_cells : (settings : LogSettings) (bytes : List ℕ) (entries : List (List ℕ × Spot)) (placed : List Placed) → ((id : List ℕ) → spot_in entries id ≡ newest (found_of placed) id)
-    → AllVisible settings bytes placed → AreTidy (records_of placed) → (id : List ℕ) → cell_in (cells_of bytes entries) id ≡ cell_from (records_of placed) id
-index_cells settings bytes entries placed index visible tidy id =
+-- what is noted stands for the join of all
+noted_joins : (settings : LogSettings) (bytes : List ℕ) (before : Option Spot) (placed : List Placed) (id : List ℕ) → AllVisible settings bytes placed → IsClear bytes before
+    → (cell_at_spot bytes (noted_or before (found_of placed) id) ≡ join (cell_at_spot bytes before) (cell_from (records_of placed) id)) × IsClear bytes (noted_or before (found_of placed) id)
+noted_joins settings bytes before [] id visible clear = (sym (join_absent (cell_at_spot bytes before)), clear)
+noted_joins settings bytes before (p ∷ placed) id visible clear =
+    let one = one_joins settings bytes before p id (visible p (inl refl)) clear in
+    let first : Option Spot = spot_for (record { place = p.place; head = head_of p.entry p.text }) id before in
+    let rest = noted_joins settings bytes first placed id (all_behind settings bytes p placed visible) one.1 in (
+      rest.0
+          ∙ ap (λ (c : Cell). join c (cell_from (records_of placed) id)) one.0
+          ∙ join_assoc (cell_at_spot bytes before) (cell_for id (id_of p.entry) (cell_of p.entry)) (cell_from (records_of placed) id),
+      rest.1,
+    )
+
+pub noted_clear : (settings : LogSettings) (bytes : List ℕ) (placed : List Placed) (id : List ℕ) → AllVisible settings bytes placed → IsClear bytes (noted (found_of placed) id)
+noted_clear settings bytes placed id visible = (noted_joins settings bytes None placed id visible tt).1
+
+-- so the index of a log stands for the cells of its records
+pub index_cells : (settings : LogSettings) (bytes : List ℕ) (entries : List (List ℕ × Spot)) (placed : List Placed) → ((id : List ℕ) → spot_in entries id ≡ noted (found_of placed) id)
+    → AllVisible settings bytes placed → (id : List ℕ) → cell_in (cells_of bytes entries) id ≡ cell_from (records_of placed) id
+index_cells settings bytes entries placed index visible id =
     cell_in-cells bytes entries id
     ∙ ap (cell_at_spot bytes) (index id)
-    ∙ newest_joins settings bytes None placed id visible tidy tt
+    ∙ (noted_joins settings bytes None placed id visible tt).0
+
+-- a record that changes its cell is noted as it is
+pub comes_noted : (bytes : List ℕ) (before : Option Spot) (r : Record) (text : List ℕ) (place : ℕ) → IsClear bytes before → MayCome (cell_at_spot bytes before) r → behind r text place before ≡ Some (own_spot r place)
+comes_noted bytes None r text place clear may = refl
+comes_noted bytes (Some spot) (Delete lsn id created) text place clear may = refl
+comes_noted bytes (Some spot) (Put lsn id blob) text place clear may = absurd (⊎_elim
+    (λ (gone : spot.gone ≡ true). subst (λ (c : Cell). MayCome c (Put lsn id blob)) (gone_spot bytes spot gone) may)
+    (λ (up : spot.gone ≡ false). let no = subst (λ (c : Cell). MayCome c (Put lsn id blob)) ((clear up).1) may in absurd (cc no))
+    (cases_Bool spot.gone))
 
 -- A record whose spot this is.
 pub record HasSpot (placed : List Placed) (id : List ℕ) (spot : Spot) : Type 0 where
@@ -156,22 +178,34 @@ one_spot : (a b : Spot) → ◌≡◌ {A = Option Spot} (Some a) (Some b) → a 
 unfolding spot_or
 one_spot a b is = ap (spot_or a) is
 
-spot_from : (before : Option Spot) (placed : List Placed) (id : List ℕ) (spot : Spot) → newest_or before (found_of placed) id ≡ Some spot → (before ≡ Some spot) ⊎ HasSpot placed id spot
+from_behind : (before : Option Spot) (p : Placed) (id : List ℕ) (spot : Spot) → is_same (id_of p.entry) id ≡ true → behind p.entry p.text p.place before ≡ Some spot → (before ≡ Some spot) ⊎ HasSpot (p ∷ []) id spot
+from_behind before p id spot same is = go before p.entry refl is
+  where
+    own : Some (own_spot p.entry p.place) ≡ Some spot → HasSpot (p ∷ []) id spot
+    own was = record { p = p; there = inl refl; id_is = sym (same_one (id_of p.entry) id same); spot_is = sym (one_spot (own_spot p.entry p.place) spot was) }
+
+    go : (o : Option Spot) (r : Record) → p.entry ≡ r → behind r p.text p.place o ≡ Some spot → (o ≡ Some spot) ⊎ HasSpot (p ∷ []) id spot
+    go None r e was = inr (own (ap (λ (x : Record). Some (own_spot x p.place)) e ∙ was))
+    go (Some s) (Put lsn other blob) e was = inl was
+    go (Some s) (Delete lsn other created) e was = inr (own (ap (λ (x : Record). Some (own_spot x p.place)) e ∙ was))
+
+more_spots : (p : Placed) (placed : List Placed) (id : List ℕ) (spot : Spot) → HasSpot (p ∷ []) id spot → HasSpot (p ∷ placed) id spot
+more_spots p placed id spot has = record { p = has.p; there = ⊎_elim (λ (here : has.p ≡ p). inl here) (λ (none : ⊥). absurd none) has.there; id_is = has.id_is; spot_is = has.spot_is }
+
+spot_from : (before : Option Spot) (placed : List Placed) (id : List ℕ) (spot : Spot) → noted_or before (found_of placed) id ≡ Some spot → (before ≡ Some spot) ⊎ HasSpot placed id spot
 spot_from before [] id spot is = inl is
 spot_from before (p ∷ placed) id spot is =
     let found : Found = record { place = p.place; head = head_of p.entry p.text } in
     ⊎_elim
     (λ (was : spot_for found id before ≡ Some spot). ⊎_elim
-    (λ (same : is_same (id_of p.entry) id ≡ true). inr (record {
-      p = p;
-      there = inl refl;
-      id_is = sym (same_one (id_of p.entry) id same);
-      spot_is = one_spot spot (record { place = p.place; gone = is_gone p.entry }) (sym was ∙ spot_for-here found id before same);
-    }))
+    (λ (same : is_same (id_of p.entry) id ≡ true). ⊎_elim
+    (λ (old : before ≡ Some spot). inl old)
+    (λ (own : HasSpot (p ∷ []) id spot). inr (more_spots p placed id spot own))
+    (from_behind before p id spot same (sym (spot_for-here found id before same) ∙ was)))
     (λ (apart : is_same (id_of p.entry) id ≡ false). inl (sym (spot_for-apart found id before apart) ∙ was))
     (cases_Bool (is_same (id_of p.entry) id)))
     (λ (later : HasSpot placed id spot). inr (record { p = later.p; there = inr later.there; id_is = later.id_is; spot_is = later.spot_is }))
     (spot_from (spot_for found id before) placed id spot is)
 
-pub has_spot : (placed : List Placed) (id : List ℕ) (spot : Spot) → newest (found_of placed) id ≡ Some spot → HasSpot placed id spot
+pub has_spot : (placed : List Placed) (id : List ℕ) (spot : Spot) → noted (found_of placed) id ≡ Some spot → HasSpot placed id spot
 has_spot placed id spot is = ⊎_elim (λ (none : ◌≡◌ {A = Option Spot} None (Some spot)). absurd (cc none)) (λ (has : HasSpot placed id spot). has) (spot_from None placed id spot is)

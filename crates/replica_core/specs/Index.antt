@@ -1,4 +1,4 @@
--- The index of a log: where the newest record of each id stands.
+-- The index of a log: which record of each id is noted, and where it stands.
 use Rattle.std.specs.Prelude.{◌≡◌, ℕ, List, [], ◌∷◌, true, false, Option, Some, None, if◌then◌else◌, map, drop}
 use Rattle.std.specs.Ordering.{nat_cmp}
 use Rattle.std.specs.Cmp.Lexicographic.{slice_cmp}
@@ -12,11 +12,11 @@ use Rattle.msg_format.specs.declared.record.Record.{Record}
 use Rattle.msg_format.specs.declared.record.Record.TheVariants.{Put, Delete}
 use Rattle.msg_format.specs.Reading.{record_at}
 use Rattle.part_log.specs.declared.segment.Found.{Found}
-use Rattle.part_log.specs.Records.{Placed, HasPlace, records_of}
+use Rattle.part_log.specs.Records.{Placed, HasPlace}
 use Rattle.part_log.specs.Scan.{found_of}
 use Rattle.part_log.specs.Log.{LogTable, IsTable, IsLog}
 use Rattle.replica_core.specs.declared.index.Spot.{Spot}
-use Rattle.replica_core.specs.Maps.{is_same, AreTidy}
+use Rattle.replica_core.specs.Maps.{is_same}
 
 -- what the index has for an id
 abbrev pub spot_in : List (List ℕ × Spot) → List ℕ → Option Spot
@@ -26,20 +26,29 @@ abbrev pub spot_of : Found → Spot
 spot_of found = record { place = found.place; gone = found.head.gone }
 
 -- the spot of this record for its own id, and this one for others
+abbrev pub spot_set : Found → List ℕ → Option Spot → Option Spot
+spot_set found id other = if is_same found.head.id id then Some (spot_of found) else other
+
+-- What is noted of the id of a record behind what was noted: the record, but that a put leaves what stands in front of it.
+abbrev pub noted_behind : Found → Option Spot → Option Spot
+noted_behind found None = Some (spot_of found)
+noted_behind found (Some spot) = Some (if found.head.gone then spot_of found else spot)
+
+-- what is noted of an id behind a record
 abbrev pub spot_for : Found → List ℕ → Option Spot → Option Spot
-spot_for found id other = if is_same found.head.id id then Some (spot_of found) else other
+spot_for found id before = if is_same found.head.id id then noted_behind found before else before
 
 -- An index with this spot, or none, for one id, and else as it was.
 abbrev pub SetsSpot : List ℕ → Option Spot → List (List ℕ × Spot) → List (List ℕ × Spot) → Type 0
 SetsSpot id spot old new = (other : List ℕ) → spot_in new other ≡ (if is_same id other then spot else spot_in old other)
 
--- the spot of the newest of these records that has this id, or this one where none has
-abbrev pub newest_or : Option Spot → List Found → List ℕ → Option Spot
-newest_or before [] id = before
-newest_or before (one ∷ found) id = newest_or (spot_for one id before) found id
+-- what is noted of an id behind these records: the newest delete, or else the first put
+abbrev pub noted_or : Option Spot → List Found → List ℕ → Option Spot
+noted_or before [] id = before
+noted_or before (one ∷ found) id = noted_or (spot_for one id before) found id
 
-abbrev pub newest : List Found → List ℕ → Option Spot
-newest found id = newest_or None found id
+abbrev pub noted : List Found → List ℕ → Option Spot
+noted found id = noted_or None found id
 
 -- the blob of a record that was read
 abbrev pub blob_cell : Option (Record × List ℕ) → Cell
@@ -55,12 +64,11 @@ spot_cell bytes spot = if spot.gone then Gone else blob_cell (record_at (drop sp
 abbrev pub cells_of : List ℕ → List (List ℕ × Spot) → List (List ℕ × Cell)
 cells_of bytes entries = map (λ e. (e.0, spot_cell bytes e.1)) entries
 
--- A log and its index: each id has the spot of its newest record.
+-- A log and its index: each id has the spot that its records leave.
 pub record IsIndexed (table : LogTable) (content : Content) (entries : List (List ℕ × Spot)) : Type 0 where
   pub placed : List Placed
   pub log : IsLog table content placed
-  pub index : (id : List ℕ) → spot_in entries id ≡ newest (found_of placed) id
-  pub tidy : AreTidy (records_of placed)
+  pub index : (id : List ℕ) → spot_in entries id ≡ noted (found_of placed) id
 
 -- What holds of a replica that isn't down.
 pub record IsReady (tells : Type 0) (table : LogTable) (content : Content) (entries : List (List ℕ × Spot)) : Type 0 where

@@ -1,6 +1,5 @@
 -- The map of a log: the cell of each id is the join of its records.
-use Rattle.std.specs.Prelude.{◌≡◌, ◌⊎◌, ℕ, ◌+◌, List, [], ◌∷◌, Bool, true, false, if◌then◌else◌}
-use Rattle.std.specs.List.{AllByRecursion}
+use Rattle.std.specs.Prelude.{◌≡◌, ◌⊎◌, ℕ, ◌+◌, List, [], ◌∷◌, Bool, true, if◌then◌else◌}
 use Rattle.std.specs.Ordering.{nat_cmp}
 use Rattle.std.specs.Cmp.Lexicographic.{slice_cmp}
 use Rattle.std.specs.BTreeMap.{is_at}
@@ -32,15 +31,6 @@ abbrev pub cell_from : List Record → List ℕ → Cell
 cell_from [] id = Absent
 cell_from (r ∷ records) id = join (cell_for id (id_of r) (cell_of r)) (cell_from records id)
 
--- of two records of one id the earlier is a put and the later a delete
-abbrev pub AllowsBehind : Record → Record → Type 0
-AllowsBehind earlier later = id_of earlier ≡ id_of later → (is_gone earlier ≡ false) × (is_gone later ≡ true)
-
--- Of each two records. So an id has at most one put and one delete, and no put behind its delete.
-abbrev pub AreTidy : List Record → Type 0
-AreTidy [] = Unit {0}
-AreTidy (r ∷ records) = AllByRecursion (AllowsBehind r) records × AreTidy records
-
 -- A record that changes a cell: any one where there is none, and a delete where a blob is held.
 abbrev pub MayCome : Cell → Record → Type 0
 MayCome Absent entry = Unit {0}
@@ -51,22 +41,20 @@ MayCome Gone entry = ⊥
 abbrev pub GiveCells : List Record → (List ℕ → Cell) → Type 0
 GiveCells records cells = (id : List ℕ) → cells id ≡ cell_from records id
 
--- These bytes stand for tidy records that give each id this cell, and for this end lsn.
+-- These bytes stand for records that give each id this cell, and for this end lsn.
 pub record StandsForCells (settings : LogSettings) (bytes : List ℕ) (cells : List ℕ → Cell) (end : ℕ) : Type 0 where
   pub records : List Record
   pub stands : StandsFor settings bytes records end
-  pub tidy : AreTidy records
   pub give : GiveCells records cells
 
 -- Whatever a crash leaves of this content, it stands for these records and this end lsn.
 abbrev pub AllStandFor : LogSettings → Content → List Record → ℕ → Type 0
 AllStandFor settings content records end = (c : List ℕ) → content.images c → StandsFor settings c records end
 
--- And the records are tidy, and give each id this cell.
+-- And the records give each id this cell.
 pub record AllStandForCells (settings : LogSettings) (content : Content) (cells : List ℕ → Cell) (end : ℕ) : Type 0 where
   pub records : List Record
   pub stand : AllStandFor settings content records end
-  pub tidy : AreTidy records
   pub give : GiveCells records cells
 
 -- the cells with one joined to that of an id
@@ -76,7 +64,3 @@ with_joined cells id cell other = join (cells other) (cell_for other id cell)
 -- At each moment of a call that may join a cell to that of an id: bytes that stand for the cells from before, or for those with it.
 abbrev pub JoinsCell : LogSettings → (List ℕ → Cell) → ℕ → List ℕ → Cell → List ℕ → List ℕ → Type 0
 JoinsCell settings cells end id cell old new = StandsForCells settings new cells end ⊎ StandsForCells settings new (with_joined cells id cell) (end + 1)
-
--- whatever a disk stands for, its records are tidy
-abbrev pub HasTidy : LogSettings → List ℕ → Type 0
-HasTidy settings bytes = (records : List Record) (end : ℕ) → StandsFor settings bytes records end → AreTidy records

@@ -1,17 +1,17 @@
-//! Where the newest record of each id stands.
+//! Which record of each id is noted, and where it stands.
 
 ghost use Rattle.std.specs.Prelude.{◌≡◌, ◌≢◌, ℕ, List, Some, None, OnOk, OnErr, IfOk};
 ghost use Rattle.std.specs.Ordering.{nat_cmp};
 ghost use Rattle.std.specs.Cmp.Lexicographic.{slice_cmp};
 ghost use Rattle.std.specs.BTreeMap.{IsOrdered};
-ghost use Rattle.replica_core.specs.Index.{SetsSpot, newest, spot_in, spot_for};
+ghost use Rattle.replica_core.specs.Index.{SetsSpot, noted, noted_behind, spot_in, spot_for};
 
 use blob_id::{BlobId, Memory};
 use part_log::Found;
 use std::alloc::Global;
 use std::collections::BTreeMap;
 
-/// Where the newest record of an id stands.
+/// Where the record stands that is noted of an id: its newest delete, or else its first put.
 #[derive(Clone, Copy, Debug, PartialEq, Eq)]
 pub(crate) struct Spot {
     /// The place of its gate on the disk.
@@ -60,21 +60,39 @@ pub(crate) fn restore(index: &mut BTreeMap<BlobId, Spot>, id: BlobId, before: Op
     }
 }
 
-/// Notes a record behind those that were noted.
+/// What is noted of an id.
+fn spot_in(index: &BTreeMap<BlobId, Spot>, id: &BlobId) -> Option<Spot>
+    ensures { result ≡ spot_in index.now.entries id.now }
+{
+    index.get(id).copied()
+}
+
+/// What is noted of the id of a record behind what was noted of it: a put leaves what stands in front of it.
+fn noted_behind(found: &Found, before: Option<Spot>) -> Spot
+    ensures { Some result ≡ noted_behind found.now before }
+{
+    match before {
+        Some(spot) if !found.head.gone => spot,
+        _ => Spot {
+            place: found.place,
+            gone: found.head.gone,
+        },
+    }
+}
+
+/// Notes a record behind those that were noted: a delete stays, and else the first put does.
 fn note(index: &mut BTreeMap<BlobId, Spot>, found: &Found) -> Result<(), Memory>
     ensures { OnOk result ((id : List ℕ) → spot_in index.new.entries id ≡ spot_for found.now id (spot_in index.old.entries id)) }
 {
-    let spot = Spot {
-        place: found.place,
-        gone: found.head.gone,
-    };
+    let before = spot_in(index, &found.head.id);
+    let spot = noted_behind(found, before);
     reserve(index, found.head.id, spot)?;
     Ok(())
 }
 
 /// The index of these records, which stand in log order.
 pub(crate) fn index_of(alloc: Global, found: &[Found]) -> Result<BTreeMap<BlobId, Spot>, Memory>
-    ensures { IfOk result (λ index. (id : List ℕ) → spot_in index.entries id ≡ newest found.now id) }
+    ensures { IfOk result (λ index. (id : List ℕ) → spot_in index.entries id ≡ noted found.now id) }
 {
     let mut index = BTreeMap::new(alloc);
     for one in found {

@@ -1,14 +1,17 @@
 //! A replica over disks in memory, with segments of 4,096 bytes.
 
-ghost use Rattle.std.specs.Prelude.{IfOk};
+ghost use Rattle.std.specs.Prelude.{◌≡◌, ◌^◌, ◌<◌, IfOk};
 ghost use Rattle.blob_id.specs.Blob.{IsBlob};
 ghost use Rattle.cell_model.specs.Cells.{HoldsBlob};
+ghost use Rattle.msg_format.specs.Records.{IsRecord, lsn_of};
 
 use crate::{LogSettings, Replica};
 use blob_id::{Blob, BlobId, Bytes, Kind, Memory};
 use cell_model::{Cell, Reply};
 use disk_core::{Disk, FuseDisk, MemDisk, Pick};
+use msg_format::Record;
 use outside::Failed;
+use part_log::{LogFault, PartLog};
 use std::alloc::Global;
 use std::process::Abort;
 use std::test::Fail;
@@ -433,5 +436,70 @@ fn a_cut_put_is_settled_by_the_opening(rt: HostRuntime) -> Result<(), Fail> {
     ] {
         assert_cuts(&rt, rt.alloc(), pick, opened)?;
     }
+    Ok(())
+}
+
+/// The record of an id: a put of a body of so many bytes, or a delete where there is none.
+fn record_of(alloc: Global, lsn: u64, number: u64, len: Option<u16>) -> Result<Record, Memory>
+    requires { lsn < 2 ^ 63 }
+    ensures fields { IfOk result (λ entry. IsRecord entry) }
+    ensures lsn { IfOk result (λ entry. lsn_of entry ≡ lsn) }
+{
+    let id = id_of(number);
+    match len {
+        Some(len) => Ok(Record::Put {
+            lsn,
+            id,
+            blob: blob_of(alloc, len)?,
+        }),
+        None => Ok(Record::Delete {
+            lsn,
+            id,
+            created: 5,
+        }),
+    }
+}
+
+/// Puts the record of an id last in a log, whatever its other records are.
+fn append<D: Disk>(
+    alloc: Global,
+    log: &mut PartLog<D>,
+    number: u64,
+    len: Option<u16>,
+) -> Result<u64, LogFault> {
+    let lsn = log.end_lsn();
+    if lsn >= 1 << 62 {
+        return Err(LogFault::Full);
+    }
+    let entry = record_of(alloc, lsn, number, len)?;
+    log.append(alloc, &entry)
+}
+
+/// A log that no replica wrote: a put stands behind the delete of its id, and another put behind the first one of its id.
+#[test]
+fn an_opening_joins_records(rt: HostRuntime) -> Result<(), Fail> {
+    let alloc = rt.alloc();
+    let disk = new_disk(alloc, 2, Pick::Drop)?;
+    let settings = LogSettings {
+        segment: 4096,
+        segments: 2,
+        index: 1000,
+    };
+    assert!(rt; disk.size() == 4096 + 2 * 4096);
+    let Ok((mut log, _)) = PartLog::open(alloc, disk, settings) else {
+        panic!(rt; "not opened")
+    };
+    for (number, len) in [
+        (1, Some(2)),
+        (1, None),
+        (1, Some(3)),
+        (2, Some(4)),
+        (2, Some(5)),
+    ] {
+        assert!(rt; append(alloc, &mut log, number, len).is_ok());
+    }
+    let mut replica = open(&rt, alloc, log.close(), 2);
+    assert_eq!(rt; answer_of(&replica.get(&id_of(1))), Answer::Gone);
+    assert_eq!(rt; answer_of(&replica.get(&id_of(2))), Answer::Blob(4));
     Ok(())
 }

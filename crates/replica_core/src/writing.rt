@@ -12,7 +12,7 @@ ghost use Rattle.part_log.specs.Records.{Placed, placed_at, records_of};
 ghost use Rattle.part_log.specs.Images.{PutsLast};
 ghost use Rattle.part_log.specs.Layout.{packed_with};
 ghost use Rattle.part_log.specs.Log.{AllVisible, IsLog, IsTable, is_full, layout_of, target_of};
-ghost use Rattle.replica_core.specs.Index.{spot_in, spot_for};
+ghost use Rattle.replica_core.specs.Index.{spot_in, spot_set};
 ghost use Rattle.replica_core.specs.Maps.{JoinsCell, MayCome, cell_of, with_joined};
 ghost use Rattle.replica_core.specs.State.{Writes, put_by};
 
@@ -49,7 +49,7 @@ fn put_noted<D: Disk>(
         → ChangesBy (PutsLast log.old.table.settings (target_of log.old.table (record_size entry.now)) (records_of placed) log.old.table.end entry.now) (D.content log.old.disk) (D.content log.new.disk) }
     ensures put { IfOk result (λ place. D.tells → (placed : List Placed) → IsLog log.old.table (D.content log.old.disk) placed
         → IsLog log.new.table (D.content log.new.disk) (placed ++ placed_at entry.now place ∷ [])) }
-    ensures noted { IfOk result (λ place. (other : List ℕ) → spot_in index.new.entries other ≡ spot_for (record { place = place; head = head_of entry.now (spelling_of entry.now) }) other (spot_in index.old.entries other)) }
+    ensures noted { IfOk result (λ place. (other : List ℕ) → spot_in index.new.entries other ≡ spot_set (record { place = place; head = head_of entry.now (spelling_of entry.now) }) other (spot_in index.old.entries other)) }
     ensures rests { OnErr result (index.new.entries ≡ index.old.entries) }
     ensures visible { D.tells → (placed : List Placed) → IsLog log.old.table (D.content log.old.disk) placed → AllVisible log.old.table.settings (D.content log.new.disk).seen placed }
     ensures good { OnOk result (IsTable log.new.table) }

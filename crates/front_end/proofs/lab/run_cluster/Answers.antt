@@ -32,7 +32,7 @@ returns-clause-run g c =
             plays_on _ _ _ _ _ _ on.went.0 c.close.ensures.goes.0,
             g.met.N.Moves.same_on _ _ _ on.went.1 c.close.ensures.goes.1,
             c.close.ensures.goes.2 ∙ on.went.2,
-            bays_on B.tells D.tells D.content B.home B.out B.same opened.nodes left.nodes end.nodes (g.met.A.Bays.same_on _ _ _) on.went.3 c.close.ensures.goes.3,
+            bays_on B.tells B.out B.same opened.nodes left.nodes end.nodes (g.met.A.Bays.same_on _ _ _) on.went.3 c.close.ensures.goes.3,
             packing,
           ) c.close.ensures.told in
           ran_finished shape disks on.router _ _ (calls_of left.cluster.past) _ _ _ c.runs_are_safe.ensures on.shaped (p.0, p.1, p.2)
@@ -47,7 +47,7 @@ returns-clause-run g c =
             plays_on _ _ _ _ _ _ on.went.0 c.close.ensures.goes.0,
             g.met.N.Moves.same_on _ _ _ on.went.1 c.close.ensures.goes.1,
             c.close.ensures.goes.2 ∙ on.went.2,
-            bays_on B.tells D.tells D.content B.home B.out B.same opened.nodes left.nodes end.nodes (g.met.A.Bays.same_on _ _ _) on.went.3 c.close.ensures.goes.3,
+            bays_on B.tells B.out B.same opened.nodes left.nodes end.nodes (g.met.A.Bays.same_on _ _ _) on.went.3 c.close.ensures.goes.3,
             packing,
           ) c.close.ensures.told in
           ran_stopped shape disks on.router _ _ (calls_of left.cluster.past) _ _ c.runs_are_safe.ensures on.shaped (p.0, p.1, p.2)
@@ -62,7 +62,7 @@ returns-clause-run g c =
             plays_on _ _ _ _ _ _ on.went.0 c.close.ensures.goes.0,
             g.met.N.Moves.same_on _ _ _ on.went.1 c.close.ensures.goes.1,
             c.close.ensures.goes.2 ∙ on.went.2,
-            bays_on B.tells D.tells D.content B.home B.out B.same opened.nodes left.nodes end.nodes (g.met.A.Bays.same_on _ _ _) on.went.3 c.close.ensures.goes.3,
+            bays_on B.tells B.out B.same opened.nodes left.nodes end.nodes (g.met.A.Bays.same_on _ _ _) on.went.3 c.close.ensures.goes.3,
             packing,
           ) c.close.ensures.told in
           ran_cut shape disks on.router _ _ (calls_of left.cluster.past) _ _ c.runs_are_safe.ensures on.shaped (p.0, p.1, p.2)
@@ -92,9 +92,6 @@ returns-clause-home g c = λ t.
     all_home g.A.Bays.out c.args.fabric.now.nodes c.close.new.self.nodes c.requires.nodes c.close.ensures.home
     (λ before own. c.close.ensures.goes.3.own t before (c.run_script.ensures.falls.3.own t before (c.open.ensures.falls.3.own t before own)))
 
-pub returns-clause-tidy_again : goal.returns-clause-tidy_again
-returns-clause-tidy_again g c = λ t tidy. c.close.ensures.goes.3.tidy t (c.run_script.ensures.falls.3.tidy t (c.open.ensures.falls.3.tidy t tidy))
-
 pub returns-clause-same_bays : goal.returns-clause-same_bays
 returns-clause-same_bays g c = g.met.A.Bays.same_on _ _ _ (g.met.A.Bays.same_on _ _ _ c.open.ensures.falls.3.same_bays c.run_script.ensures.falls.3.same_bays) c.close.ensures.goes.3.same_bays
 
@@ -122,12 +119,3 @@ returns-in-Err-Refused-clause-run g c =
 pub returns-in-Err-Refused-clause-home : goal.returns-in-Err-Refused-clause-home
 returns-in-Err-Refused-clause-home g c = λ t.
     all_home g.A.Bays.out c.args.fabric.now.nodes c.open.new.self.nodes c.requires.nodes c.in-Err-Refused.ensures.shut (λ before own. c.open.ensures.falls.3.own t before own)
-
-pub returns-in-Err-Failed-clause-tidy_again : goal.returns-in-Err-Failed-clause-tidy_again
-returns-in-Err-Failed-clause-tidy_again g c = λ t tidy. c.open.ensures.falls.3.tidy t tidy
-
-pub returns-in-Err-Memory-clause-tidy_again : goal.returns-in-Err-Memory-clause-tidy_again
-returns-in-Err-Memory-clause-tidy_again g c = λ t tidy. c.open.ensures.falls.3.tidy t tidy
-
-pub returns-in-Err-Refused-clause-tidy_again : goal.returns-in-Err-Refused-clause-tidy_again
-returns-in-Err-Refused-clause-tidy_again g c = λ t tidy. c.open.ensures.falls.3.tidy t tidy

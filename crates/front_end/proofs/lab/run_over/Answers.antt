@@ -1,5 +1,5 @@
 use Rattle.std.proofs.Common.{◌∙◌, ap, subst, sym}
-use Rattle.lab_nodes.specs.Nodes.{AllTidy, HomeHolds}
+use Rattle.lab_nodes.specs.Nodes.{HomeHolds}
 use Rattle.lab_nodes.specs.Spots.{HasFailed}
 use Rattle.front_end.specs.Disks.{disks_of}
 use Rattle.front_end.specs.Run.{HasRun, outside_of}
@@ -13,11 +13,6 @@ run_cluster-status-requires-clause-holds g c = λ opening held.
 pub returns-clause-home : goal.returns-clause-home
 returns-clause-home g c = λ t n p.
     ap (λ b. g.A.Bays.out b n p) c.give_back-bays.ensures.bays ∙ c.run_cluster-status.ensures.home t n p ∙ ap (λ s. g.A.Bays.out s.bays n p) c.new-fabric.ensures.nodes
-
-pub returns-clause-tidy_again : goal.returns-clause-tidy_again
-returns-clause-tidy_again g c = λ t.
-    subst (λ (b : _). AllTidy g.A.Disk.Disk.content g.A.Bays.home b) (sym c.give_back-bays.ensures.bays)
-    (c.run_cluster-status.ensures.tidy_again t (subst (λ (b : _). AllTidy g.A.Disk.Disk.content g.A.Bays.home b) (sym (ap (λ s. s.bays) c.new-fabric.ensures.nodes)) (c.requires.tidy t)))
 
 pub returns-clause-failed : goal.returns-clause-failed
 returns-clause-failed g c = λ five.

@@ -6,7 +6,7 @@ use Rattle.disk_core.specs.Homes.{TakesOut}
 use Rattle.replica_core.specs.Maps.{StandsForCells}
 use Rattle.lab_nodes.specs.declared.fault.NodesFault.{NodesFault}
 use Rattle.lab_nodes.specs.Holding.{found}
-use Rattle.lab_nodes.proofs.Taking.{cause_of, goes_back, opens, others_on, refused_stays, taken_found, taken_tidy}
+use Rattle.lab_nodes.proofs.Taking.{cause_of, goes_back, opens, others_on, refused_stays, taken_found}
 use Rattle.lab_nodes.proofs.opening.open_replica.Goals as goal
 use Rattle.lab_nodes.proofs.opening.open_replica.Goals.{In-Ok}
 
@@ -16,11 +16,6 @@ takes g c t = subst (λ (n : ℕ). TakesOut g.B.Disk.Disk.tells g.B.Disk.Disk.co
 
 seen : (g : _) (c : In-Ok g) → g.B.Disk.Disk.tells → (g.B.Disk.Disk.content c.in-Ok.disk).seen ≡ found g.B.Disk.Disk.content c.args.settings (g.B.Bays.home c.args.bays.now c.args.folder.now c.args.node c.args.partition)
 seen g c t = taken_found g.B.Disk.Disk.tells g.B.Disk.Disk.content g.B.Disk.Disk.size c.args.settings c.args.folder.now c.args.node c.args.partition c.in-Ok.disk _ _ _ _ (takes g c (g.met.B.Bays.known t)) t
-
-pub open-requires-2-clause-tidy : goal.open-requires-2-clause-tidy
-open-requires-2-clause-tidy g c = λ t.
-    let it = (goal.at.open-requires-2-clause-tidy g c).In-Ok in
-    taken_tidy g.B.Disk.Disk.tells g.B.Disk.Disk.content g.B.Disk.Disk.size c.args.settings c.args.folder.now c.args.node c.args.partition c.in-Ok.disk _ _ _ _ (takes g it (g.met.B.Bays.known t)) t c.args.settings (c.requires.tidy t)
 
 pub returns-in-Ok-open-clause-opened : goal.returns-in-Ok-open-clause-opened
 returns-in-Ok-open-clause-opened g c =

@@ -18,11 +18,6 @@ still : (g : _) (c : In-loop-place g) → g.B.Bays.tells → spot_at c.args.shap
     ≡ spot_at c.args.shape.now.partitions c.args.folder.now c.args.slots.now.items (g.B.Bays.home c.args.bays.now) (g.B.Bays.out c.args.bays.now) c.loop-place.place
 still g c t = (c.loop-place.invariant.spots t c.loop-place.place).1 (omega arith)
 
-pub start_place-requires-clause-tidy : goal.start_place-requires-clause-tidy
-start_place-requires-clause-tidy g c = λ t due disk is.
-    let it = (goal.at.start_place-requires-clause-tidy g c).In-loop-place in
-    c.requires.tidy t c.loop-place.place due disk (sym (ap (λ (s : Spot g.row.B-Disk.Denot). s.home) (still g it (g.met.B.Bays.known t))) ∙ is)
-
 pub start_place-requires-clause-empty : goal.start_place-requires-clause-empty
 start_place-requires-clause-empty g c = λ meant.
     let it = (goal.at.start_place-requires-clause-empty g c).In-loop-place in

@@ -1,6 +1,5 @@
 use Rattle.std.proofs.Common.{◌≡◌, Bool, true, Some, sym, refl, subst, ℕ, ap, ◌∙◌}
 use Rattle.log_manifest.specs.declared.manifest.LogSettings.{LogSettings}
-use Rattle.replica_core.specs.Maps.{HasTidy}
 use Rattle.lab_nodes.specs.Holding.{settings_of}
 use Rattle.lab_nodes.specs.Spots.{partition_at}
 use Rattle.lab_nodes.specs.Starting.{StartsSlot, is_due}
@@ -11,13 +10,6 @@ use Rattle.lab_nodes.proofs.spots.start_place.Goals.{Then-stands_on}
 due : (g : _) (c : Then-stands_on g) → is_due c.args.which c.args.shape.now c.args.place ≡ true
 due g c = due_from c.args.which c.args.shape.now c.args.place c.node_at-node.result c.partition_at-partition.result c.is_meant.result c.stands_on.result
     c.node_at-node.ensures c.partition_at-partition.ensures c.is_meant.ensures c.if-is_meant.true c.stands_on.ensures c.if-stands_on.true
-
-pub open_replica-requires-clause-tidy : goal.open_replica-requires-clause-tidy
-open_replica-requires-clause-tidy g c = λ t disk is.
-    let it = (goal.at.open_replica-requires-clause-tidy g c).Then-stands_on in
-    let home = g.B.Bays.home c.args.bays.now c.args.folder.now in
-    subst (λ (s : LogSettings). HasTidy s (g.B.Disk.Disk.content disk).seen) (sym c.settings_of.ensures.settings)
-    (c.requires.tidy t (due g it) disk (ap (λ (n : ℕ). home n (partition_at c.args.shape.now.partitions c.args.place)) (sym c.node_at-node.ensures) ∙ ap (λ (p : ℕ). home c.node_at-node.result p) (sym c.partition_at-partition.ensures) ∙ is))
 
 pub returns-in_ok-replica-clause-slot : goal.returns-in_ok-replica-clause-slot
 returns-in_ok-replica-clause-slot g c =

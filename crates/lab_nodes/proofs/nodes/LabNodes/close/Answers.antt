@@ -3,10 +3,10 @@ use Rattle.std.specs.Option.{is_some}
 use Rattle.std.specs.Prelude.{string_bytes}
 use Rattle.world_model.specs.declared.shape.Shape.{Shape}
 use Rattle.lab_nodes.specs.Layouts.{HaveLayouts}
-use Rattle.lab_nodes.specs.Nodes.{AllTidy, Holds, IsNodes, IsOpen, NodesState, OnlyOwnOut, replica_at, replica_in}
+use Rattle.lab_nodes.specs.Nodes.{Holds, IsNodes, IsOpen, NodesState, OnlyOwnOut, replica_at, replica_in}
 use Rattle.lab_nodes.specs.Spots.{WentHome}
 use Rattle.lab_nodes.specs.declared.places.Which.{Which}
-use Rattle.lab_nodes.proofs.Halting.{halted_layouts, halted_open, halted_out, halted_places, halted_slot, halted_tidy, halted_went, holds_for}
+use Rattle.lab_nodes.proofs.Halting.{halted_layouts, halted_open, halted_out, halted_places, halted_slot, halted_went, holds_for}
 use Rattle.lab_nodes.proofs.Packing.{layouts_for}
 use Rattle.lab_nodes.proofs.Placing.{few_places}
 use Rattle.lab_nodes.proofs.nodes.LabNodes.close.Goals as goal
@@ -67,10 +67,3 @@ returns-in-Some-clause-left g c = λ t n p replica.
     (subst (λ (o : Option Shape). replica_in o c.self.inside.slots.items n p ≡ Some replica → WentHome g.B.Disk.Disk.tells g.B.Disk.Disk.content g.B.Disk.Disk.size false replica (record { slot = None; home = g.B.Bays.home c.halt.new.bays (string_bytes c.self.inside.folder) n p; out = g.B.Bays.out c.halt.new.bays n p })) (sym c.in-Some.is)
     (halted_went g.B.Bays.tells g.B.Disk.Disk.tells g.B.Disk.Disk.content g.B.Disk.Disk.size g.B.Bays.home g.B.Bays.out g.met.B.Bays.known Which.All false c.in-Some.shape (string_bytes c.self.inside.folder) c.self.inside.bays c.halt.new.bays c.self.inside.slots.items c.halt.new.slots.items
     it c.halt.ensures.length c.halt.ensures.slots (λ u. c.halt.ensures.spots u (string_bytes c.self.inside.folder) (it.outs u)) (λ u. c.halt.ensures.rest u (string_bytes c.self.inside.folder) (it.outs u)) t n p replica refl))
-
-pub returns-in-Some-clause-tidy_again : goal.returns-in-Some-clause-tidy_again
-returns-in-Some-clause-tidy_again g c = λ t.
-    let it = opened g (goal.at.returns-in-Some-clause-tidy_again g c).In-Some in
-    subst (λ (s : NodesState g.row.B.Denot g.row.B-Disk.Denot). AllTidy g.B.Disk.Disk.content g.B.Bays.home s.bays → AllTidy g.B.Disk.Disk.content g.B.Bays.home c.halt.new.bays) c.self.view_is
-    (halted_tidy g.B.Bays.tells g.B.Disk.Disk.tells g.B.Disk.Disk.content g.B.Disk.Disk.size g.B.Bays.home g.B.Bays.out g.met.B.Bays.known Which.All _ c.in-Some.shape (string_bytes c.self.inside.folder) c.self.inside.bays c.halt.new.bays c.self.inside.slots.items c.halt.new.slots.items
-    it c.halt.ensures.length c.halt.ensures.slots (λ u. c.halt.ensures.spots u (string_bytes c.self.inside.folder) (it.outs u)) (λ u. c.halt.ensures.rest u (string_bytes c.self.inside.folder) (it.outs u)) t)

@@ -2,18 +2,15 @@ use Rattle.std.proofs.Common.{ℕ, List, Some, sym, ◌∙◌, ap, subst, arith}
 use Rattle.std.specs.Prelude.{string_bytes}
 use Rattle.lab_nodes.specs.declared.places.Which.{Which}
 use Rattle.lab_nodes.specs.Layouts.{HaveLayouts}
-use Rattle.lab_nodes.specs.Nodes.{AllTidy, Holds, IsOpen, NodesState, OnlyOwnOut}
+use Rattle.lab_nodes.specs.Nodes.{Holds, IsOpen, NodesState, OnlyOwnOut}
 use Rattle.lab_nodes.specs.Spots.{HasFailed}
-use Rattle.lab_nodes.specs.Starting.{AreTidyAt, IsFirst}
-use Rattle.lab_nodes.proofs.Beginning.{none_open, opened_holds, opened_layouts, opened_open, opened_out, opened_tidy, opened_up, unopened_holds, unopened_layouts, unopened_out, unopened_tidy}
+use Rattle.lab_nodes.specs.Starting.{IsFirst}
+use Rattle.lab_nodes.proofs.Beginning.{none_open, opened_holds, opened_layouts, opened_open, opened_out, opened_up, unopened_holds, unopened_layouts, unopened_out}
 use Rattle.lab_nodes.proofs.Placing.{few_places}
 use Rattle.lab_nodes.proofs.nodes.LabNodes.open.Goals as goal
 
 pub start-requires-clause-few : goal.start-requires-clause-few
 start-requires-clause-few g c = omega (arith, c.in_ok-slots.ensures.length, few_places c.args.shape.now c.requires.shape)
-
-pub start-requires-clause-tidy : goal.start-requires-clause-tidy
-start-requires-clause-tidy g c = subst (λ (s : NodesState g.row.B.Denot g.row.B-Disk.Denot). g.B.Disk.Disk.tells → AreTidyAt g.B.Disk.Disk.tells g.B.Disk.Disk.content g.B.Disk.Disk.size Which.All c.args.shape.now c.args.folder.now (g.B.Bays.home s.bays)) (sym c.self.view_is) c.requires.tidy
 
 pub start-requires-clause-empty : goal.start-requires-clause-empty
 start-requires-clause-empty g c = λ place meant. c.in_ok-slots.ensures.none place
@@ -79,15 +76,3 @@ returns-clause-out g c = λ t before.
     (subst (λ (s : NodesState g.row.B.Denot g.row.B-Disk.Denot). OnlyOwnOut g.B.Bays.out before s → OnlyOwnOut g.B.Bays.out before (record { shape = Some c.args.shape.now; folder = c.args.folder.now; bays = c.start.new.bays; slots = c.start.new.slots.items })) c.self.view_is
     (opened_out g.B.Bays.tells g.B.Disk.Disk.tells g.B.Disk.Disk.content g.B.Disk.Disk.size g.B.Bays.home g.B.Bays.out g.met.B.Bays.known c.args.shape.now c.args.folder.now (record { shape = c.self.inside.shape; folder = string_bytes c.self.inside.folder; bays = c.self.inside.bays; slots = c.self.inside.slots.items }) c.start.new.bays c.in_ok-slots.slots.items c.start.new.slots.items
     (ap (λ (s : NodesState g.row.B.Denot g.row.B-Disk.Denot). s.shape) c.self.view_is ∙ c.requires.closed) c.requires.shape c.in_ok-slots.ensures.length c.start.ensures.length c.in_ok-slots.ensures.none c.in-Ok.ensures.slots c.in-Ok.ensures.spots c.start.ensures.rest t before))
-
-pub returns-in-Err-clause-tidy_again : goal.returns-in-Err-clause-tidy_again
-returns-in-Err-clause-tidy_again g c = λ t.
-    subst (λ (s : NodesState g.row.B.Denot g.row.B-Disk.Denot). AllTidy g.B.Disk.Disk.content g.B.Bays.home s.bays → AllTidy g.B.Disk.Disk.content g.B.Bays.home c.start.new.bays) c.self.view_is
-    (unopened_tidy g.B.Bays.tells g.B.Disk.Disk.tells g.B.Disk.Disk.content g.B.Disk.Disk.size g.B.Bays.home g.B.Bays.out g.met.B.Bays.known c.args.shape.now c.args.folder.now (record { shape = c.self.inside.shape; folder = string_bytes c.self.inside.folder; bays = c.self.inside.bays; slots = c.self.inside.slots.items }) (record { shape = c.self.inside.shape; folder = string_bytes c.self.inside.folder; bays = c.start.new.bays; slots = c.self.inside.slots.items }) c.in_ok-slots.slots.items c.start.new.slots.items
-    (ap (λ (s : NodesState g.row.B.Denot g.row.B-Disk.Denot). s.shape) c.self.view_is ∙ c.requires.closed) (ap (λ (s : NodesState g.row.B.Denot g.row.B-Disk.Denot). s.shape) c.self.view_is ∙ c.requires.closed) c.in_ok-slots.ensures.none c.in-Err.ensures.closed c.in-Err.ensures.closed_spots c.start.ensures.rest t)
-
-pub returns-clause-tidy_again : goal.returns-clause-tidy_again
-returns-clause-tidy_again g c = λ t.
-    subst (λ (s : NodesState g.row.B.Denot g.row.B-Disk.Denot). AllTidy g.B.Disk.Disk.content g.B.Bays.home s.bays → AllTidy g.B.Disk.Disk.content g.B.Bays.home c.start.new.bays) c.self.view_is
-    (opened_tidy g.B.Bays.tells g.B.Disk.Disk.tells g.B.Disk.Disk.content g.B.Disk.Disk.size g.B.Bays.home g.B.Bays.out g.met.B.Bays.known c.args.shape.now c.args.folder.now (record { shape = c.self.inside.shape; folder = string_bytes c.self.inside.folder; bays = c.self.inside.bays; slots = c.self.inside.slots.items }) c.start.new.bays c.in_ok-slots.slots.items c.start.new.slots.items
-    (ap (λ (s : NodesState g.row.B.Denot g.row.B-Disk.Denot). s.shape) c.self.view_is ∙ c.requires.closed) c.requires.shape c.in_ok-slots.ensures.length c.start.ensures.length c.in_ok-slots.ensures.none c.in-Ok.ensures.slots c.in-Ok.ensures.spots c.start.ensures.rest t)

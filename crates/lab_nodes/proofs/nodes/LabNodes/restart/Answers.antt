@@ -5,12 +5,12 @@ use Rattle.std.proofs.lemmas.Result.{on_err_weaker, on_ok_weaker}
 use Rattle.world_model.specs.declared.shape.Shape.{Shape}
 use Rattle.lab_nodes.specs.declared.places.Which.{Which}
 use Rattle.lab_nodes.specs.Layouts.{HaveLayouts}
-use Rattle.lab_nodes.specs.Nodes.{AllTidy, Holds, IsNodes, IsOpen, NodesState, OnlyOwnOut, is_up, replica_in, stands}
+use Rattle.lab_nodes.specs.Nodes.{Holds, IsNodes, IsOpen, NodesState, OnlyOwnOut, is_up, replica_in, stands}
 use Rattle.lab_nodes.specs.Starting.{AreEmpty}
 use Rattle.lab_nodes.proofs.Halting.{holds_for}
 use Rattle.lab_nodes.proofs.Packing.{layouts_for}
 use Rattle.lab_nodes.proofs.Placing.{few_places}
-use Rattle.lab_nodes.proofs.Starting.{either_way, out_as, refused_node, some_are_tidy, started_layouts, started_open, started_out, started_places, started_up, stopped_layouts, stopped_open, stopped_places, started_tidy, stopped_slot, stopped_outs, stopped_tidy, empty_node}
+use Rattle.lab_nodes.proofs.Starting.{either_way, out_as, refused_node, started_layouts, started_open, started_out, started_places, started_up, stopped_layouts, stopped_open, stopped_places, stopped_slot, stopped_outs, empty_node}
 use Rattle.lab_nodes.proofs.nodes.LabNodes.restart.Goals as goal
 use Rattle.lab_nodes.proofs.nodes.LabNodes.restart.Goals.{In-Some}
 
@@ -29,12 +29,6 @@ start-requires-clause-few g c =
 
 pub start-requires-clause-empty : goal.start-requires-clause-empty
 start-requires-clause-empty g c = are_empty g (goal.at.start-requires-clause-empty g c).In-Some
-
-pub start-requires-clause-tidy : goal.start-requires-clause-tidy
-start-requires-clause-tidy g c =
-    let some = (goal.at.start-requires-clause-tidy g c).In-Some in
-    let it = subst (λ (f : List ℕ). IsOpen g.B.Bays.tells g.B.Disk.Disk.tells g.B.Disk.Disk.content g.B.Bays.home g.B.Bays.out c.in-Some.shape f c.self.inside.bays c.self.inside.slots.items) (sym c.as_str.ensures.value) (opened g some) in
-    some_are_tidy g.B.Bays.tells g.B.Disk.Disk.tells g.B.Disk.Disk.content g.B.Disk.Disk.size g.B.Bays.home g.B.Bays.out (Which.Node c.args.node) c.in-Some.shape c.as_str.result.now c.self.inside.bays c.self.inside.slots.items it (are_empty g some)
 
 pub invariant_of-self : goal.invariant_of-self
 invariant_of-self g c =
@@ -105,13 +99,3 @@ returns-in-Some-clause-out g c = λ t before.
 
 pub returns-in-Some-clause-refused : goal.returns-in-Some-clause-refused
 returns-in-Some-clause-refused g c = λ refusal is. refused_node c.in-Some.shape c.args.node refusal (c.start.ensures.refused_place refusal is)
-
-pub returns-in-Some-clause-tidy_again : goal.returns-in-Some-clause-tidy_again
-returns-in-Some-clause-tidy_again g c = λ t.
-    let some = (goal.at.returns-in-Some-clause-tidy_again g c).In-Some in
-    let it = subst (λ (f : List ℕ). IsOpen g.B.Bays.tells g.B.Disk.Disk.tells g.B.Disk.Disk.content g.B.Bays.home g.B.Bays.out c.in-Some.shape f c.self.inside.bays c.self.inside.slots.items) (sym c.as_str.ensures.value) (opened g some) in
-    subst (λ (s : NodesState g.row.B.Denot g.row.B-Disk.Denot). AllTidy g.B.Disk.Disk.content g.B.Bays.home s.bays → AllTidy g.B.Disk.Disk.content g.B.Bays.home c.start.new.bays) c.self.view_is
-    (either_way c.start.result _ _ _ _ _ c.start.ensures.slots c.start.ensures.spots c.start.ensures.closed c.start.ensures.closed_spots
-    (λ slots spots. started_tidy g.B.Bays.tells g.B.Disk.Disk.tells g.B.Disk.Disk.content g.B.Disk.Disk.size g.B.Bays.home g.B.Bays.out g.met.B.Bays.known (Which.Node c.args.node) c.in-Some.shape c.as_str.result.now c.self.inside.bays c.start.new.bays c.self.inside.slots.items c.start.new.slots.items
-    it.ranges it.long c.start.ensures.length it.due it.outs (are_empty g some) (λ u k undue due. it.places u k due) slots spots c.start.ensures.rest t)
-    (λ closed closed_spots. stopped_tidy g.B.Bays.tells g.B.Disk.Disk.tells g.B.Disk.Disk.content g.B.Disk.Disk.size g.B.Bays.home g.B.Bays.out g.met.B.Bays.known c.in-Some.shape c.as_str.result.now c.self.inside.bays c.start.new.bays c.self.inside.slots.items c.start.new.slots.items closed closed_spots c.start.ensures.rest t))

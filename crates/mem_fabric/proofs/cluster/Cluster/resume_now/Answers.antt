@@ -7,9 +7,9 @@ restart-requires-clause-stopped g c = down c.args.self.now c.args.nodes.now c.ar
 pub returns-in-Ok-clause-goes : goal.returns-in-Ok-clause-goes
 returns-in-Ok-clause-goes g c =
     goes_again g.B.Bays.tells g.B.Disk.Disk.tells g.B.Disk.Disk.content g.B.Disk.Disk.faults g.B.Bays.home g.B.Bays.out g.B.Bays.same c.args.self.now c.resume.new.self c.args.nodes.now c.restart.new.self c.args.node c.resume.ensures.run c.resume.ensures.nodes c.requires.of
-    c.restart.ensures.named.0 c.in-Ok.ensures.up c.restart.ensures.holds c.restart.ensures.layouts c.restart.ensures.same c.restart.ensures.out c.restart.ensures.tidy_again
+    c.restart.ensures.named.0 c.in-Ok.ensures.up c.restart.ensures.holds c.restart.ensures.layouts c.restart.ensures.same c.restart.ensures.out
 
 pub returns-in-Err-clause-goes : goal.returns-in-Err-clause-goes
 returns-in-Err-clause-goes g c =
     goes_in_vain g.B.Bays.tells g.B.Disk.Disk.tells g.B.Disk.Disk.content g.B.Disk.Disk.faults g.B.Bays.home g.B.Bays.out g.B.Bays.same c.args.self.now c.rest.new.self c.args.nodes.now c.restart.new.self c.rest.ensures.run c.rest.ensures.nodes c.requires.of
-    c.restart.ensures.named.0 c.in-Err.ensures.err c.restart.ensures.holds c.restart.ensures.layouts c.restart.ensures.same c.restart.ensures.out c.restart.ensures.tidy_again
+    c.restart.ensures.named.0 c.in-Err.ensures.err c.restart.ensures.holds c.restart.ensures.layouts c.restart.ensures.same c.restart.ensures.out

@@ -10,7 +10,7 @@ pub returns-clause-goes : goal.returns-clause-goes
 returns-clause-goes g c =
     plays_next (g.M.Moves.given c.args.self.now.moves) (g.M.Moves.given c.pick-chosen.new.self) (network_of c.args.self.now.cluster) (network_of c.act.new.self) c.pick-chosen.result c.act.result
     (g.M.Moves.same c.args.self.now.moves c.pick-chosen.new.self) (g.M.Moves.seeds c.pick-chosen.new.self ≡ g.M.Moves.seeds c.args.self.now.moves)
-    (KeepsBays g.B.Bays.tells g.B.Disk.Disk.tells g.B.Disk.Disk.content g.B.Bays.home g.B.Bays.out g.B.Bays.same c.args.self.now.nodes c.act.new.nodes)
+    (KeepsBays g.B.Bays.tells g.B.Bays.out g.B.Bays.same c.args.self.now.nodes c.act.new.nodes)
     (KeepsPacking g.B.Disk.Disk.tells g.B.Disk.Disk.content g.B.Bays.home (calls_of c.args.self.now.cluster.past) c.args.self.now.nodes (calls_of c.act.new.self.past) c.act.new.nodes)
     (has_shape c.args.self.now.opened c.args.self.now.cluster.shape c.requires.open) c.requires.calm c.act.ensures.does
     (c.pick-chosen.ensures.given ∙ ap (λ l. l ++ c.pick-chosen.result ∷ []) c.in_ok-ready.ensures.given)

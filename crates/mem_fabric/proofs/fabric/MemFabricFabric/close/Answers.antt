@@ -13,6 +13,6 @@ returns-clause-goes g c = (
   plays_nothing (g.M.Moves.given c.args.self.now.moves) (network_of c.args.self.now.cluster),
   g.met.M.Moves.same_self c.args.self.now.moves,
   refl,
-  record { same_bays = c.close.ensures.same; own = c.close.ensures.out; tidy = c.close.ensures.tidy_again },
+  record { same_bays = c.close.ensures.same; own = c.close.ensures.out },
   packing_by g.B.Bays.tells g.B.Disk.Disk.tells g.B.Disk.Disk.content g.B.Disk.Disk.faults g.B.Bays.home g.B.Bays.out g.B.Bays.same c.args.self.now.cluster c.args.self.now.cluster c.args.self.now.nodes c.close.new.self (keeps_itself c.args.self.now.cluster) c.close.ensures.named.0 c.close.ensures.holds c.close.ensures.layouts,
 )

@@ -11,7 +11,7 @@ returns-else-queued-eq0-clause-goes g c = (
   plays_given (g.M.Moves.given c.args.self.now.moves) (network_of c.args.self.now.cluster) (network_of c.give.new.self) c.give.result c.give.ensures.oldest c.give.ensures.network,
   g.met.M.Moves.same_self c.args.self.now.moves,
   refl,
-  bays_stay g.B.Bays.tells g.B.Disk.Disk.tells g.B.Disk.Disk.content g.B.Bays.home g.B.Bays.out g.B.Bays.same c.args.self.now.nodes (g.met.B.Bays.same_self c.args.self.now.nodes.bays),
+  bays_stay g.B.Bays.tells g.B.Bays.out g.B.Bays.same c.args.self.now.nodes (g.met.B.Bays.same_self c.args.self.now.nodes.bays),
   packing_kept g.B.Bays.tells g.B.Disk.Disk.tells g.B.Disk.Disk.content g.B.Disk.Disk.faults g.B.Bays.home g.B.Bays.out g.B.Bays.same c.args.self.now.cluster c.give.new.self c.args.self.now.nodes c.give.ensures.run,
 )
 
@@ -21,6 +21,6 @@ returns-else-queued-eq0-clause-falls g c = (
       (plays_given (g.M.Moves.given c.args.self.now.moves) (network_of c.args.self.now.cluster) (network_of c.give.new.self) c.give.result c.give.ensures.oldest c.give.ensures.network),
   g.met.M.Moves.same_self c.args.self.now.moves,
   refl,
-  bays_stay g.B.Bays.tells g.B.Disk.Disk.tells g.B.Disk.Disk.content g.B.Bays.home g.B.Bays.out g.B.Bays.same c.args.self.now.nodes (g.met.B.Bays.same_self c.args.self.now.nodes.bays),
+  bays_stay g.B.Bays.tells g.B.Bays.out g.B.Bays.same c.args.self.now.nodes (g.met.B.Bays.same_self c.args.self.now.nodes.bays),
   packing_kept g.B.Bays.tells g.B.Disk.Disk.tells g.B.Disk.Disk.content g.B.Disk.Disk.faults g.B.Bays.home g.B.Bays.out g.B.Bays.same c.args.self.now.cluster c.give.new.self c.args.self.now.nodes c.give.ensures.run,
 )

@@ -1,7 +1,6 @@
 use Rattle.std.proofs.Common.{◌≡◌, Err, ap, refl, subst, sym}
 use Rattle.std.specs.Option.{is_some}
-use Rattle.lab_nodes.specs.Holding.{settings_of}
-use Rattle.lab_nodes.specs.Nodes.{AllTidy, is_up}
+use Rattle.lab_nodes.specs.Nodes.{is_up}
 use Rattle.lab_nodes.specs.Starting.{IsFirst}
 use Rattle.lab_nodes.specs.declared.fault.NodesFault.{NodesFault}
 use Rattle.lab_nodes.specs.declared.places.Which.{Which}
@@ -13,11 +12,6 @@ use Rattle.mem_fabric.proofs.Playing.{plays_open}
 use Rattle.mem_fabric.proofs.fabric.MemFabricFabric.open.Goals as goal
 use Rattle.world_model.specs.declared.order.Refusal.{Refusal}
 
-pub open-requires-clause-tidy : goal.open-requires-clause-tidy
-open-requires-clause-tidy g c = λ t place due disk at_home.
-    subst (λ (b : _). AllTidy g.B.Disk.Disk.content g.B.Bays.home b) (sym (c.args.self.now.kept c.requires.fresh)) (c.look.ensures t)
-    (settings_of c.args.shape.now) c.args.folder.now _ _ disk at_home
-
 pub returns-in-Ok-clause-run : goal.returns-in-Ok-clause-run
 returns-in-Ok-clause-run g c =
     run_at g.B.Bays.tells g.B.Disk.Disk.tells g.B.Disk.Disk.content g.B.Disk.Disk.faults g.B.Bays.home g.B.Bays.out g.B.Bays.same c.args.self.now.cluster c.open-in-Ok.new.self c.args.self.now.nodes c.open.new.self c.args.shape.now c.args.folder.now c.open-in-Ok.ensures.run c.open.ensures.holds
@@ -27,7 +21,7 @@ returns-in-Ok-clause-goes g c = (
   plays_open (g.M.Moves.given c.args.self.now.moves) c.args.self.now.cluster c.open-in-Ok.new.self c.args.shape.now (c.args.self.now.empty c.requires.fresh) c.open-in-Ok.ensures.network,
   g.met.M.Moves.same_self c.args.self.now.moves,
   refl,
-  record { same_bays = c.open.ensures.same; own = c.open.ensures.out; tidy = c.open.ensures.tidy_again },
+  record { same_bays = c.open.ensures.same; own = c.open.ensures.out },
   packing_fresh g.B.Disk.Disk.tells g.B.Disk.Disk.content g.B.Bays.home c.args.self.now.nodes c.open.new.self (calls_of c.args.self.now.cluster.past) (calls_of c.open-in-Ok.new.self.past) (c.args.self.now.unopened c.requires.fresh),
 )
 
@@ -37,7 +31,7 @@ returns-in-Ok-clause-falls g c = (
       (plays_open (g.M.Moves.given c.args.self.now.moves) c.args.self.now.cluster c.open-in-Ok.new.self c.args.shape.now (c.args.self.now.empty c.requires.fresh) c.open-in-Ok.ensures.network),
   g.met.M.Moves.same_self c.args.self.now.moves,
   refl,
-  record { same_bays = c.open.ensures.same; own = c.open.ensures.out; tidy = c.open.ensures.tidy_again },
+  record { same_bays = c.open.ensures.same; own = c.open.ensures.out },
   packing_fresh g.B.Disk.Disk.tells g.B.Disk.Disk.content g.B.Bays.home c.args.self.now.nodes c.open.new.self (calls_of c.args.self.now.cluster.past) (calls_of c.open-in-Ok.new.self.past) (c.args.self.now.unopened c.requires.fresh),
 )
 

@@ -12,7 +12,7 @@ returns-in-Ok-clause-goes g c = λ _. (
       (has_node c.args.self.now.opened c.args.self.now.cluster.shape c.args.node c.requires.node) c.in-Ok.ensures.ok,
   g.met.M.Moves.same_self c.args.self.now.moves,
   refl,
-  bays_stay g.B.Bays.tells g.B.Disk.Disk.tells g.B.Disk.Disk.content g.B.Bays.home g.B.Bays.out g.B.Bays.same c.args.self.now.nodes (g.met.B.Bays.same_self c.args.self.now.nodes.bays),
+  bays_stay g.B.Bays.tells g.B.Bays.out g.B.Bays.same c.args.self.now.nodes (g.met.B.Bays.same_self c.args.self.now.nodes.bays),
   packing_kept g.B.Bays.tells g.B.Disk.Disk.tells g.B.Disk.Disk.content g.B.Disk.Disk.faults g.B.Bays.home g.B.Bays.out g.B.Bays.same c.args.self.now.cluster c.refuse.new.self c.args.self.now.nodes c.refuse.ensures.run,
 )
 
@@ -23,7 +23,7 @@ returns-in-Ok-clause-falls g c = (
       (has_node c.args.self.now.opened c.args.self.now.cluster.shape c.args.node c.requires.node) c.in-Ok.ensures.ok),
   g.met.M.Moves.same_self c.args.self.now.moves,
   refl,
-  bays_stay g.B.Bays.tells g.B.Disk.Disk.tells g.B.Disk.Disk.content g.B.Bays.home g.B.Bays.out g.B.Bays.same c.args.self.now.nodes (g.met.B.Bays.same_self c.args.self.now.nodes.bays),
+  bays_stay g.B.Bays.tells g.B.Bays.out g.B.Bays.same c.args.self.now.nodes (g.met.B.Bays.same_self c.args.self.now.nodes.bays),
   packing_kept g.B.Bays.tells g.B.Disk.Disk.tells g.B.Disk.Disk.content g.B.Disk.Disk.faults g.B.Bays.home g.B.Bays.out g.B.Bays.same c.args.self.now.cluster c.refuse.new.self c.args.self.now.nodes c.refuse.ensures.run,
 )
 
@@ -33,7 +33,7 @@ returns-in-Ok-send-clause-goes g c = λ _. (
       (has_node c.args.self.now.opened c.args.self.now.cluster.shape c.args.node c.requires.node) c.in-Ok-send.ensures.ok,
   g.met.M.Moves.same_self c.args.self.now.moves,
   refl,
-  bays_stay g.B.Bays.tells g.B.Disk.Disk.tells g.B.Disk.Disk.content g.B.Bays.home g.B.Bays.out g.B.Bays.same c.args.self.now.nodes (g.met.B.Bays.same_self c.args.self.now.nodes.bays),
+  bays_stay g.B.Bays.tells g.B.Bays.out g.B.Bays.same c.args.self.now.nodes (g.met.B.Bays.same_self c.args.self.now.nodes.bays),
   packing_kept g.B.Bays.tells g.B.Disk.Disk.tells g.B.Disk.Disk.content g.B.Disk.Disk.faults g.B.Bays.home g.B.Bays.out g.B.Bays.same c.args.self.now.cluster c.send.new.self c.args.self.now.nodes c.send.ensures.run,
 )
 
@@ -44,6 +44,6 @@ returns-in-Ok-send-clause-falls g c = (
       (has_node c.args.self.now.opened c.args.self.now.cluster.shape c.args.node c.requires.node) c.in-Ok-send.ensures.ok),
   g.met.M.Moves.same_self c.args.self.now.moves,
   refl,
-  bays_stay g.B.Bays.tells g.B.Disk.Disk.tells g.B.Disk.Disk.content g.B.Bays.home g.B.Bays.out g.B.Bays.same c.args.self.now.nodes (g.met.B.Bays.same_self c.args.self.now.nodes.bays),
+  bays_stay g.B.Bays.tells g.B.Bays.out g.B.Bays.same c.args.self.now.nodes (g.met.B.Bays.same_self c.args.self.now.nodes.bays),
   packing_kept g.B.Bays.tells g.B.Disk.Disk.tells g.B.Disk.Disk.content g.B.Disk.Disk.faults g.B.Bays.home g.B.Bays.out g.B.Bays.same c.args.self.now.cluster c.send.new.self c.args.self.now.nodes c.send.ensures.run,
 )

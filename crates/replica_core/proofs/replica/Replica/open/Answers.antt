@@ -1,7 +1,7 @@
 use Rattle.std.proofs.Common.{List, ◌∙◌, ap}
 use Rattle.part_log.specs.declared.segment.Found.{Found}
 use Rattle.part_log.specs.Records.{records_of}
-use Rattle.replica_core.specs.Index.{newest, IsIndexed}
+use Rattle.replica_core.specs.Index.{noted, IsIndexed}
 use Rattle.replica_core.proofs.Standing.{its_cells, same_cells}
 use Rattle.replica_core.proofs.replica.Replica.open.Goals as goal
 
@@ -15,8 +15,7 @@ invariant_of-result g c = λ still. (
         record {
           placed = found.0;
           log = found.1;
-          index = λ id. c.in-Ok-index_of.ensures id ∙ ap (λ (l : List Found). newest l id) (c.deref.ensures.value ∙ found.3);
-          tidy = c.requires.tidy t (records_of found.0) _ found.2;
+          index = λ id. c.in-Ok-index_of.ensures id ∙ ap (λ (l : List Found). noted l id) (c.deref.ensures.value ∙ found.3);
         };
   },
 )
@@ -27,10 +26,9 @@ returns-in-Ok-index_of-clause-cells g c = λ t.
     let indexed : IsIndexed c.in-Ok.opened.0.table (g.D.Disk.content c.in-Ok.opened.0.disk) c.in-Ok-index_of.index.entries = record {
       placed = found.0;
       log = found.1;
-      index = λ id. c.in-Ok-index_of.ensures id ∙ ap (λ (l : List Found). newest l id) (c.deref.ensures.value ∙ found.3);
-      tidy = c.requires.tidy t (records_of found.0) _ found.2;
+      index = λ id. c.in-Ok-index_of.ensures id ∙ ap (λ (l : List Found). noted l id) (c.deref.ensures.value ∙ found.3);
     } in
-    record { records = records_of found.0; stands = found.2; tidy = indexed.tidy; give = its_cells c.in-Ok.opened.0.table (g.D.Disk.content c.in-Ok.opened.0.disk) c.in-Ok-index_of.index.entries c.in-Ok.ensures.table.0 indexed }
+    record { records = records_of found.0; stands = found.2; give = its_cells c.in-Ok.opened.0.table (g.D.Disk.content c.in-Ok.opened.0.disk) c.in-Ok-index_of.index.entries c.in-Ok.ensures.table.0 indexed }
 
 pub returns-clause-kept_err : goal.returns-clause-kept_err
 returns-clause-kept_err g c = λ t some. ap (λ (d : g.row.D.Denot). (g.D.Disk.content d).seen) c.close.ensures.disk ∙ c.in-Ok.ensures.kept t some
