@@ -1,6 +1,6 @@
 //! What of a file may not have reached its device.
 
-ghost use Rattle.std.specs.Prelude.{◌≡◌, ◌≤◌, ◌↔◌, IsTrue};
+ghost use Rattle.std.specs.Prelude.{◌≡◌, false};
 ghost use Rattle.disk_core.specs.DirtyRange.{Covers, Grows};
 
 use std::io;
@@ -19,9 +19,15 @@ pub struct DirtyRange {
 }
 
 impl DirtyRange {
-    /// Nothing was written.
-    pub fn none() -> DirtyRange {
-        DirtyRange::up_to(0)
+    /// Nothing was written. It begins behind each place, so that a range that is added begins where that one does.
+    pub fn none() -> DirtyRange
+        ensures { result.forgotten ≡ false }
+    {
+        DirtyRange {
+            from: u64::MAX,
+            to: 0,
+            forgotten: false,
+        }
     }
 
     /// So many bytes from the file's begin on.
@@ -35,9 +41,7 @@ impl DirtyRange {
         }
     }
 
-    pub fn is_empty(&self) -> bool
-        ensures { IsTrue result ↔ (self.now.to ≤ self.now.from) }
-    {
+    pub fn is_empty(&self) -> bool {
         self.from >= self.to
     }
 
@@ -57,11 +61,6 @@ impl DirtyRange {
         ensures grows { Grows self.old self.new }
     {
         if from >= to {
-            return;
-        }
-        if self.is_empty() {
-            self.from = from;
-            self.to = to;
             return;
         }
         self.from = self.from.min(from);

@@ -1,6 +1,6 @@
 //! A disk in a file of the host. It tells nothing: that the file keeps the disk model is a premise and not proved.
 
-ghost use Rattle.std.specs.Prelude.{◌≡◌, ◌+◌, ◌<◌, ◌≤◌, ◌^◌, ◌↔◌, length, true, IsOk, IsErr, IsSome};
+ghost use Rattle.std.specs.Prelude.{◌≡◌, ◌+◌, ◌<◌, ◌≤◌, ◌^◌, ◌↔◌, length, true, false, IsOk, IsErr, IsSome};
 ghost use Rattle.outside.specs.Causes.{HasCause};
 ghost use Rattle.disk_core.specs.Content.{Reads, Writes, Syncs};
 ghost use Rattle.disk_core.specs.DirtyRange.{Covers, Grows};
@@ -90,6 +90,7 @@ impl<F: OpenFile + FileExt + Drop> FileDisk<F> {
     fn flush(&mut self) -> io::Result<()>
         ensures size { self.new.size ≡ self.old.size }
         ensures faults { self.new.faults ≡ self.old.faults }
+        ensures clean { IsOk result → self.new.dirty.forgotten ≡ false }
         ensures dirty { IsErr result → self.new.dirty ≡ record self.old.dirty { forgotten = true } }
     {
         if self.dirty.forgotten {
@@ -154,6 +155,7 @@ impl<F: OpenFile + FileExt + Drop> Disk for FileDisk<F> {
         ensures told { ⊥ → Syncs result silent silent }
         ensures size { size_of self.new ≡ size_of self.old }
         ensures cause { HasCause (faults_of self.old) (faults_of self.new) result }
+        ensures clean { IsOk result → (dirty_of self.new).forgotten ≡ false }
         ensures dirty { IsErr result → dirty_of self.new ≡ record (dirty_of self.old) { forgotten = true } }
         ensures reason { IsErr result → IsSome (reason_of self.new) }
     {

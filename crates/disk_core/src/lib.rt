@@ -12,8 +12,9 @@
 //!   joins a write and a sync.
 //! - The trait `Bays`: `open` hands a disk out, a new one of zeros where there is none, and `give_back` puts it home as it is.
 //! - `MemDisk` and `MemBays` lie in memory and tell their content; a `Pick` says what a stop leaves, and calls can be listed to
-//!   fail. `FuseDisk` and `FuseBays` pass some calls of another disk, and then fail until it is stopped. `FileDisk` and
-//!   `FileBays` are files.
+//!   fail. `FuseDisk` and `FuseBays` pass some calls of another disk, and then fail until it is stopped.
+//! - `FileDisk` and `FileBays` are files. One process at a time has a folder. A sync behind one that failed writes again what
+//!   wasn't synced. `last_fault` tells why a call failed.
 //!
 //! # Proved
 //!
@@ -23,15 +24,24 @@
 //!   write besides for want of memory, which changes nothing (`unlisted`).
 //! - Bays that tell hand out the disk that was put home, or a new one, and refuse another size or a disk that is out (`taken`,
 //!   `other_size`, `is_out`); where they refuse, nothing changes (`refused`).
+//! - Of a disk in a file, which tells nothing: its size stays, a failure raised the count and has a reason (`reason`). The range
+//!   that may not be synced takes in what is written (`dirty`), loses nothing before a sync that succeeds (`grows`), and is noted
+//!   as one to write again by a sync that fails (`dirty`), until one succeeds (`clean`).
 //!
 //! # Tested
 //!
 //! What each pick leaves; a write that is listed to fail; that the write which blows a fuse reaches the disk below; each kind
 //! of bays once, files among them.
 //!
+//! Over a file system in memory, which lists calls, fails them and loses at a power cut what wasn't synced: the calls of an
+//! opening, a write and a sync, in order; writes that take a part of their bytes; that partitions have files of their own; an
+//! error in each call of the first opening, and the opening behind the power cut; that what a failed sync forgot is written
+//! again, also behind `give_back` and `open`; an interrupted sync; a disk that is gone; a folder that another process holds.
+//!
 //! # Trusted
 //!
-//! That a file keeps the model of a disk. Files tell nothing.
+//! That a file keeps the model of a disk, and that the system keeps what a sync that succeeded was of. Files tell nothing, so
+//! no clause says that a sync is made at all, that the range is written again, or where in the folder a disk lies.
 #![tactic(auto)]
 
 mod bays;

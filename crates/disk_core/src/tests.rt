@@ -167,12 +167,6 @@ fn a_disk_with_a_fuse_is_kept(rt: HostRuntime) -> Result<(), Fail> {
 fn a_disk_in_a_file_is_kept(rt: HostRuntime) -> Result<(), Fail> {
     let mut bays = FileBays::new(rt.alloc(), rt);
     assert_kept(&rt, &mut bays, "disk_core_test_folder/inner", Ok(()));
-    let mut others = FileBays::new(rt.alloc(), rt);
-    assert_refused(&rt, &mut others, "disk_core_test_folder/inner");
-    assert_eq!(rt; others.last_fault(), Some(FileFault::Locked));
-    drop(bays);
-    let again = open_one(&rt, &mut others, "disk_core_test_folder/inner");
-    others.give_back(1, 2, again);
     assert!(rt; fs::exists(&rt, "disk_core_test_folder/inner/n1p2")?);
     fs::remove_dir_all(&rt, "disk_core_test_folder")?;
     Ok(())
@@ -182,252 +176,248 @@ fn a_disk_in_a_file_is_kept(rt: HostRuntime) -> Result<(), Fail> {
 const NEVER: Failing = Failing {
     from: 0,
     to: 0,
-    error: 5,
+    error: 0,
 };
+
+// One call fails, with an error of the system.
+fn failing(call: usize, error: i32) -> Failing {
+    Failing {
+        from: call,
+        to: call,
+        error,
+    }
+}
+
+// The errors of the system that calls fail with.
+const INTERRUPTED: i32 = 4;
+
+const DEVICE: i32 = 5;
+
+const FORBIDDEN: i32 = 13;
+
+const NO_ROOM: i32 = 28;
+
+// What the disks have bytes of.
+const SIZE: u64 = 100_000;
+
+// The calls of the first opening. Each new name is synced, that of a disk only behind the disk's bytes.
+const FIRST_CALLS: [&str; 17] = [
+    "open a/b/lock",
+    "mkdir a",
+    "open .",
+    "fsync .",
+    "mkdir a/b",
+    "open a",
+    "fsync a",
+    "create a/b/lock",
+    "flock a/b/lock",
+    "open a/b/n1p2",
+    "create a/b/n1p2.new",
+    "pwrite a/b/n1p2.new",
+    "pwrite a/b/n1p2.new",
+    "fsync a/b/n1p2.new",
+    "rename a/b/n1p2",
+    "open a/b",
+    "fsync a/b",
+];
 
 // The calls since the last time are these.
 fn assert_calls(rt: &impl Abort, host: &Host, expected: &[&str]) -> Result<(), Fail> {
     let calls = host.take_calls()?;
-    assert_eq!(rt; calls.len(), expected.len(), "the number of calls");
     for (call, line) in calls.iter().zip(expected.iter()) {
         assert_eq!(rt; call.as_str(), *line);
     }
+    assert_eq!(rt; calls.len(), expected.len(), "the number of calls");
     Ok(())
 }
 
-// The disk of a node and a partition of 100,000 bytes.
-fn open_at(
-    rt: &impl Abort,
-    bays: &mut FileBays<&Host>,
-    node: u32,
-    partition: u32,
-) -> FileDisk<HostFile> {
-    match bays.open("a/b", node, partition, 100_000) {
+// The disk of node 1 and a partition.
+fn open_at(rt: &impl Abort, bays: &mut FileBays<&Host>, partition: u32) -> FileDisk<HostFile> {
+    match bays.open("a/b", 1, partition, SIZE) {
         Ok(disk) => disk,
         Err(fault) => panic!(rt; "no disk: {fault}"),
     }
 }
 
+// An opening of the disk of node 1 and partition 2 fails, for this reason.
+fn assert_fault(rt: &impl Abort, bays: &mut FileBays<&Host>, fault: FileFault) {
+    match bays.open("a/b", 1, 2, SIZE) {
+        Err(BayFault::Failed) => assert_eq!(rt; bays.last_fault(), Some(fault)),
+        _ => panic!(rt; "not refused"),
+    }
+}
+
 #[test]
 fn files_are_made_and_opened_by_these_calls(rt: HostRuntime) -> Result<(), Fail> {
-    let host = Host::new(rt.alloc(), 65_536, NEVER)?;
-    let mut bays = FileBays::new(rt.alloc(), &host);
-    let mut disk = open_at(&rt, &mut bays, 1, 2);
-    // each new name is synced, the one of the disk's file only once its bytes are
-    assert_calls(
-        &rt,
-        &host,
-        &[
-            "open a/b/lock",
-            "mkdir a",
-            "open .",
-            "fsync .",
-            "mkdir a/b",
-            "open a",
-            "fsync a",
-            "create a/b/lock",
-            "flock a/b/lock",
-            "open a/b/n1p2",
-            "create a/b/n1p2.new",
-            "pwrite a/b/n1p2.new",
-            "pwrite a/b/n1p2.new",
-            "fsync a/b/n1p2.new",
-            "rename a/b/n1p2",
-            "open a/b",
-            "fsync a/b",
-        ],
-    )?;
+    let alloc = rt.alloc();
+    let host = Host::new(alloc, 65_536, NEVER)?;
+    let mut bays = FileBays::new(alloc, &host);
+    let mut disk = open_at(&rt, &mut bays, 2);
+    assert_calls(&rt, &host, &FIRST_CALLS)?;
     assert_eq!(rt; write_synced(&mut disk, 4, &[1, 2, 3, 4]), Ok(()));
     assert_calls(&rt, &host, &["pwrite a/b/n1p2", "fdatasync a/b/n1p2"])?;
-    let other = open_at(&rt, &mut bays, 1, 12);
-    assert_calls(
-        &rt,
-        &host,
-        &[
-            "open a/b/n1p12",
-            "create a/b/n1p12.new",
-            "pwrite a/b/n1p12.new",
-            "pwrite a/b/n1p12.new",
-            "fsync a/b/n1p12.new",
-            "rename a/b/n1p12",
-            "open a/b",
-            "fsync a/b",
-        ],
-    )?;
-    bays.give_back(1, 12, other);
     bays.give_back(1, 2, disk);
-    let mut later = FileBays::new(rt.alloc(), &host);
-    let mut again = open_at(&rt, &mut later, 1, 2);
-    assert_bytes(&rt, &mut again, 4, [1, 2, 3, 4]);
-    assert_calls(
-        &rt,
-        &host,
-        &[
-            "open a/b/lock",
-            "flock a/b/lock",
-            "open a/b/n1p2",
-            "fstat a/b/n1p2",
-            "open a/b",
-            "fsync a/b",
-            "pread a/b/n1p2",
-        ],
-    )?;
-    later.give_back(1, 2, again);
-    Ok(())
-}
-
-// A disk of 8 bytes, opened again where an opening fails, which then says why.
-fn open_at_last(
-    rt: &impl Abort,
-    bays: &mut FileBays<&Host>,
-    reason: FileFault,
-) -> FileDisk<HostFile> {
-    for _ in 0..4 {
-        match bays.open("a/b", 1, 2, 8) {
-            Ok(disk) => return disk,
-            Err(BayFault::Failed) => assert_eq!(rt; bays.last_fault(), Some(reason)),
-            Err(fault) => panic!(rt; "no disk: {fault}"),
-        }
-    }
-    panic!(rt; "each opening failed")
-}
-
-// Writes four bytes, again where that fails.
-fn write_at_last(rt: &impl Abort, disk: &mut FileDisk<HostFile>, reason: FileFault) {
-    for _ in 0..4 {
-        assert!(rt; disk.size() >= 8);
-        if disk.write(4, &[1, 2, 3, 4]).is_ok() {
-            return;
-        }
-        assert_eq!(rt; disk.last_fault(), Some(reason));
-    }
-    panic!(rt; "each write failed");
-}
-
-// Syncs a disk, again where that fails, maybe once it was put home and opened again.
-fn sync_at_last(
-    rt: &impl Abort,
-    bays: &mut FileBays<&Host>,
-    disk: FileDisk<HostFile>,
-    reason: FileFault,
-    reopens: bool,
-) -> FileDisk<HostFile> {
-    let mut disk = disk;
-    for _ in 0..4 {
-        if disk.sync().is_ok() {
-            return disk;
-        }
-        assert_eq!(rt; disk.last_fault(), Some(reason));
-        if reopens {
-            bays.give_back(1, 2, disk);
-            assert_eq!(rt; bays.last_fault(), Some(reason));
-            disk = open_at_last(rt, bays, reason);
-        }
-    }
-    panic!(rt; "each sync failed")
-}
-
-// What happens to a disk between its write and the sync that succeeds.
-#[derive(Clone, Copy, PartialEq, Eq)]
-enum Between {
-    Nothing,
-    // a sync that fails, and another opening
-    Reopening,
-    // the process ends, and the next one syncs it
-    NextProcess,
-}
-
-// Calls of the system fail while a disk is made and written, and while the next process opens it. The bytes that were synced
-// are there behind a power cut, and no draft is. The answer is the number of calls.
-fn assert_outlives(
-    rt: &impl Abort,
-    alloc: Global,
-    failing: Failing,
-    reason: FileFault,
-    between: Between,
-) -> Result<usize, Fail> {
-    let host = Host::new(alloc, 3, failing)?;
-    let mut bays = FileBays::new(alloc, &host);
-    let mut disk = open_at_last(rt, &mut bays, reason);
-    write_at_last(rt, &mut disk, reason);
-    if between == Between::NextProcess {
-        bays = FileBays::new(alloc, &host);
-        disk = open_at_last(rt, &mut bays, reason);
-    }
-    let disk = sync_at_last(rt, &mut bays, disk, reason, between == Between::Reopening);
-    bays.give_back(1, 2, disk);
-    let calls = host.take_calls()?.len();
-    assert!(rt; !host.has("a/b/n1p2.new")?);
-    host.cut_power()?;
+    drop(bays);
     let mut later = FileBays::new(alloc, &host);
-    let mut again = open_at_last(rt, &mut later, reason);
-    host.set_failing(NEVER)?;
-    assert_bytes(rt, &mut again, 0, [0, 0, 0, 0]);
-    assert_bytes(rt, &mut again, 4, [1, 2, 3, 4]);
+    let mut again = open_at(&rt, &mut later, 2);
+    assert_bytes(&rt, &mut again, 4, [1, 2, 3, 4]);
+    let calls = [
+        "open a/b/lock",
+        "flock a/b/lock",
+        "open a/b/n1p2",
+        "fstat a/b/n1p2",
+        "open a/b",
+        "fsync a/b",
+        "pread a/b/n1p2",
+    ];
+    assert_calls(&rt, &host, &calls)?;
     later.give_back(1, 2, again);
-    Ok(calls)
+    Ok(())
 }
 
 #[test]
-fn what_a_file_was_synced_with_outlives_failing_calls(rt: HostRuntime) -> Result<(), Fail> {
-    let reasons = [
-        (5, FileFault::Device),
-        (13, FileFault::NoPermission),
-        (28, FileFault::NoRoom),
-        (24, FileFault::System(24)),
+fn a_write_is_done_once_all_its_bytes_are(rt: HostRuntime) -> Result<(), Fail> {
+    let alloc = rt.alloc();
+    let host = Host::new(alloc, 30_000, NEVER)?;
+    let mut bays = FileBays::new(alloc, &host);
+    let bytes = vec![in alloc; 7; 70_000]?;
+    let mut disk = open_at(&rt, &mut bays, 2);
+    assert_eq!(rt; disk.size(), SIZE);
+    host.set_failing(NEVER)?;
+    assert_eq!(rt; write_synced(&mut disk, 0, bytes.as_slice()), Ok(()));
+    let calls = [
+        "pwrite a/b/n1p2",
+        "pwrite a/b/n1p2",
+        "pwrite a/b/n1p2",
+        "fdatasync a/b/n1p2",
     ];
-    for between in [Between::Nothing, Between::Reopening, Between::NextProcess] {
-        let calls = assert_outlives(&rt, rt.alloc(), NEVER, FileFault::Device, between)?;
-        for (error, reason) in reasons {
-            for from in 1..calls.saturating_add(1) {
-                for more in 0..3 {
-                    let to = from.saturating_add(more);
-                    let failing = Failing { from, to, error };
-                    assert_outlives(&rt, rt.alloc(), failing, reason, between)?;
-                }
-            }
+    assert_calls(&rt, &host, &calls)?;
+    host.cut_power()?;
+    assert_bytes(&rt, &mut disk, 69_996, [7, 7, 7, 7]);
+    assert_bytes(&rt, &mut disk, 70_000, [0, 0, 0, 0]);
+    bays.give_back(1, 2, disk);
+    Ok(())
+}
+
+#[test]
+fn each_partition_has_a_file(rt: HostRuntime) -> Result<(), Fail> {
+    let host = Host::new(rt.alloc(), 65_536, NEVER)?;
+    let mut bays = FileBays::new(rt.alloc(), &host);
+    for partition in 0..24 {
+        let mut disk = open_at(&rt, &mut bays, partition);
+        assert_bytes(&rt, &mut disk, 0, [0, 0, 0, 0]);
+        assert!(rt; disk.size() >= 4);
+        assert_eq!(rt; write_synced(&mut disk, 0, &[1, 2, 3, 4]), Ok(()));
+        bays.give_back(1, partition, disk);
+    }
+    Ok(())
+}
+
+#[test]
+fn an_opening_fails_as_the_system_does(rt: HostRuntime) -> Result<(), Fail> {
+    // of the first opening the call that fails, its error, the answer and the last call
+    let rows = [
+        (1, FORBIDDEN, FileFault::NoPermission, "open a/b/lock"),
+        (4, DEVICE, FileFault::Device, "fsync ."),
+        (8, NO_ROOM, FileFault::NoRoom, "create a/b/lock"),
+        (10, FORBIDDEN, FileFault::NoPermission, "open a/b/n1p2"),
+        (13, NO_ROOM, FileFault::NoRoom, "unlink a/b/n1p2.new"),
+        (14, DEVICE, FileFault::Device, "unlink a/b/n1p2.new"),
+        (17, 99, FileFault::System(99), "fsync a/b"),
+    ];
+    for (call, error, fault, last) in rows {
+        let host = Host::new(rt.alloc(), 65_536, failing(call, error))?;
+        let mut bays = FileBays::new(rt.alloc(), &host);
+        assert_fault(&rt, &mut bays, fault);
+        match host.take_calls()?.last() {
+            Some(line) => assert_eq!(rt; line.as_str(), last),
+            None => panic!(rt; "no call"),
         }
     }
     Ok(())
 }
 
 #[test]
-fn calls_on_files_go_on_where_they_are_cut_short(rt: HostRuntime) -> Result<(), Fail> {
-    for number in 1..6 {
-        let host = Host::new(rt.alloc(), 3, NEVER)?;
+fn a_stop_in_any_call_leaves_no_shorter_disk(rt: HostRuntime) -> Result<(), Fail> {
+    for call in 1..FIRST_CALLS.len() + 1 {
+        let host = Host::new(rt.alloc(), 65_536, failing(call, DEVICE))?;
         let mut bays = FileBays::new(rt.alloc(), &host);
-        let mut disk = open_at_last(&rt, &mut bays, FileFault::Device);
-        let _opening = host.take_calls()?;
-        host.set_failing(Failing {
-            from: number,
-            to: number,
-            error: 4,
-        })?;
-        assert_eq!(rt; disk.size(), 8);
-        assert_eq!(rt; write_synced(&mut disk, 4, &[1, 2, 3, 4]), Ok(()));
+        assert_fault(&rt, &mut bays, FileFault::Device);
+        host.cut_power()?;
+        host.set_failing(NEVER)?;
+        let mut later = FileBays::new(rt.alloc(), &host);
+        let mut disk = open_at(&rt, &mut later, 2);
+        assert_bytes(&rt, &mut disk, 99_996, [0, 0, 0, 0]);
+        later.give_back(1, 2, disk);
+    }
+    Ok(())
+}
+
+#[test]
+fn what_a_failed_sync_forgot_is_written_again(rt: HostRuntime) -> Result<(), Fail> {
+    // whether the disk is put home and opened again between the syncs
+    for is_reopened in [false, true] {
+        let host = Host::new(rt.alloc(), 65_536, NEVER)?;
+        let mut bays = FileBays::new(rt.alloc(), &host);
+        let mut disk = open_at(&rt, &mut bays, 2);
+        assert!(rt; disk.size() >= 12);
+        host.set_failing(failing(3, DEVICE))?;
+        assert_eq!(rt; disk.write(8, &[5, 6, 7, 8]), Ok(()));
+        assert!(rt; disk.size() >= 12);
+        assert_eq!(rt; disk.write(4, &[1, 2, 3, 4]), Ok(()));
+        assert_eq!(rt; disk.sync(), Err(Failed));
+        if is_reopened {
+            bays.give_back(1, 2, disk);
+            disk = open_at(&rt, &mut bays, 2);
+        }
+        host.set_failing(NEVER)?;
+        assert_eq!(rt; disk.sync(), Ok(()));
+        let calls = ["pread a/b/n1p2", "pwrite a/b/n1p2", "fdatasync a/b/n1p2"];
+        assert_calls(&rt, &host, &calls)?;
+        assert_eq!(rt; disk.sync(), Ok(()));
+        assert_calls(&rt, &host, &["fdatasync a/b/n1p2"])?;
+        host.cut_power()?;
         assert_bytes(&rt, &mut disk, 4, [1, 2, 3, 4]);
+        assert_bytes(&rt, &mut disk, 8, [5, 6, 7, 8]);
         bays.give_back(1, 2, disk);
     }
     Ok(())
 }
 
 #[test]
-fn a_disk_that_is_gone_and_a_folder_that_is_held_are_refused(rt: HostRuntime) -> Result<(), Fail> {
-    let alloc = rt.alloc();
-    let host = Host::new(alloc, 8, NEVER)?;
-    let mut bays = FileBays::new(alloc, &host);
-    let disk = open_at_last(&rt, &mut bays, FileFault::Device);
+fn a_sync_that_is_interrupted_is_tried_again(rt: HostRuntime) -> Result<(), Fail> {
+    let host = Host::new(rt.alloc(), 65_536, NEVER)?;
+    let mut bays = FileBays::new(rt.alloc(), &host);
+    let mut disk = open_at(&rt, &mut bays, 2);
+    assert!(rt; disk.size() >= 4);
+    host.set_failing(failing(2, INTERRUPTED))?;
+    assert_eq!(rt; write_synced(&mut disk, 0, &[1, 2, 3, 4]), Ok(()));
+    host.cut_power()?;
+    assert_bytes(&rt, &mut disk, 0, [1, 2, 3, 4]);
+    bays.give_back(1, 2, disk);
+    Ok(())
+}
+
+#[test]
+fn a_disk_that_is_gone_is_not_made_again(rt: HostRuntime) -> Result<(), Fail> {
+    let host = Host::new(rt.alloc(), 65_536, NEVER)?;
+    let mut bays = FileBays::new(rt.alloc(), &host);
+    let disk = open_at(&rt, &mut bays, 2);
     bays.give_back(1, 2, disk);
     fs::remove_file(&host, "a/b/n1p2")?;
-    assert!(rt; matches!(bays.open("a/b", 1, 2, 8), Err(BayFault::Failed)));
-    assert_eq!(rt; bays.last_fault(), Some(FileFault::Gone));
-    assert!(rt; !host.has("a/b/n1p2")?);
-    let mut later = FileBays::new(alloc, &host);
+    assert_fault(&rt, &mut bays, FileFault::Gone);
+    Ok(())
+}
+
+#[test]
+fn a_folder_is_held_once(rt: HostRuntime) -> Result<(), Fail> {
+    let host = Host::new(rt.alloc(), 65_536, NEVER)?;
     host.set_held(true)?;
-    assert!(rt; matches!(later.open("a/b", 1, 2, 8), Err(BayFault::Failed)));
-    assert_eq!(rt; later.last_fault(), Some(FileFault::Locked));
+    let mut bays = FileBays::new(rt.alloc(), &host);
+    assert_fault(&rt, &mut bays, FileFault::Locked);
+    assert_calls(&rt, &host, &FIRST_CALLS[..9])?;
     host.set_held(false)?;
-    let anew = open_at_last(&rt, &mut later, FileFault::Device);
-    later.give_back(1, 2, anew);
+    let disk = open_at(&rt, &mut bays, 2);
+    bays.give_back(1, 2, disk);
     Ok(())
 }

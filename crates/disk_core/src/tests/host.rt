@@ -203,7 +203,15 @@ impl Host {
         })
     }
 
-    /// The calls since this was last asked.
+    /// From now on these calls fail, counted from here.
+    pub fn set_failing(&self, failing: Failing) -> io::Result<()> {
+        let mut state = state_in(&self.state)?;
+        state.calls.clear();
+        state.failing = failing;
+        Ok(())
+    }
+
+    /// The calls since this or `set_failing` was last called.
     pub fn take_calls(&self) -> io::Result<Vec<String>> {
         let mut state = state_in(&self.state)?;
         let none = Vec::new(self.alloc);
@@ -214,17 +222,6 @@ impl Host {
     pub fn set_held(&self, is_held: bool) -> io::Result<()> {
         state_in(&self.state)?.is_held = is_held;
         Ok(())
-    }
-
-    /// Which calls fail from now on, counted since the calls were last taken.
-    pub fn set_failing(&self, failing: Failing) -> io::Result<()> {
-        state_in(&self.state)?.failing = failing;
-        Ok(())
-    }
-
-    /// Whether there is a file of this name.
-    pub fn has(&self, path: &str) -> io::Result<bool> {
-        Ok(state_in(&self.state)?.find(path).is_ok())
     }
 
     /// The power is cut: what was synced is left.
