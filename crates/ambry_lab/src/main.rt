@@ -17,8 +17,9 @@
 //!
 //! # Tested
 //!
-//! Its stored run is a put and a get. `tests/repository.sh` runs the examples with their transcripts, and one script under a
-//! hundred schedules; `tests/folder.sh` runs the program over real files, a killed run among them.
+//! Its stored run is a put and a get. Of the checks in `tests/`, `repository.sh` runs the examples with their transcripts, and
+//! one script under a hundred schedules. The others run the program over real files: `folder.sh` kills runs, `disks.sh` opens
+//! what an earlier program wrote, `files.sh` looks at the calls of the system, and `refusals.sh` at what is said of failures.
 //!
 //! # Trusted
 //!
