@@ -17,8 +17,8 @@ is measured again replaces it. What was never measured, or changed since, has no
 A check's time is what its process and all that it started took of the processors, read a few times a second, so it may lack the
 last quarter of a second. A proof includes the building of the crate's library or program; the edits include the check of the
 unchanged crate that they begin with and the one that they end with. A check that failed has no number, nor has one that was cut off.
-A function's time is what its crate's check took from the line before that says that a function was checked to the function's own line, so
-it includes the lemmas and contracts that no function before it needed.
+A function's time is what its crate's check took from the line that says that the function before was checked to its own line, so it
+includes the lemmas and contracts that none before it needed. The first function of a crate has none: before its line all is read.
 """
 import fcntl
 import hashlib
@@ -242,7 +242,8 @@ def functions(names):
     for name in names:
         # This builds the libraries below, and proves no function of the crate itself.
         subprocess.run(["rt", "check", "--only", ""], cwd=f"crates/{name}", stdout=subprocess.DEVNULL, check=False)
-        check = subprocess.Popen(check_words(known[name], known), cwd=f"crates/{name}", stdout=subprocess.PIPE, text=True, errors="replace")
+        how = {"stdout": subprocess.PIPE, "stderr": subprocess.STDOUT, "text": True, "errors": "replace"}
+        check = subprocess.Popen(check_words(known[name], known), cwd=f"crates/{name}", **how)
         times = times_of_functions(check)
         if check.wait():
             sys.exit(f"{name} was not proved")
@@ -251,13 +252,14 @@ def functions(names):
 
 
 def times_of_functions(check):
-    """The processor seconds before each function's line of a check."""
-    times, before = {}, 0
+    """The processor seconds between each function's line of a check and the line before."""
+    times, before = {}, None
     for line in check.stdout:
         now, children = processes()
         if (told := re.match(r"checked (\S+), \d+ of \d+", line)) and check.pid in now:
             ticks = ticks_of(check.pid, now, children)
-            times[told[1]] = round((ticks - before) / TICKS, 2)
+            if before is not None:
+                times[told[1]] = round((ticks - before) / TICKS, 2)
             before = ticks
     return times
 
@@ -337,7 +339,7 @@ def dearest_edits(number):
 def dearest_functions(known, kept):
     measured = {it: kept.get(f"{it}/functions", {}).get(crate.sum()) for it, crate in known.items()}
     of = [it for it, times in measured.items() if times]
-    times = {f"{name}/{function}": seconds for name in of for function, seconds in measured[name].items()}
+    times = {function: seconds for name in of for function, seconds in measured[name].items()}
     dearest = sorted(times.items(), key=lambda it: -it[1])[:MOST]
     if not of:
         return "Dearest functions: not measured."
