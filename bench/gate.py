@@ -269,11 +269,9 @@ def check_words(crate, known):
     kit = Path(shutil.which("rt")).resolve().parent.parent
     root = "src/main.rt" if Path("crates", crate.name, "src/main.rt").exists() else "src/lib.rt"
     words = [f"{kit}/bin/rattle", "check", "--crate-name", crate.name, root, "-L", f"dependency={kit}/rlibs"]
-    for name in crate.uses:
+    for name in ["std", *crate.uses]:
         built = Path("crates", name, "out/rlib").resolve() if name in known else kit / "rlibs"
         words += ["--extern", f"{name}={built}/{name}.rlib"]
-    for name in {"std", *crate.uses} ^ {*crate.uses}:
-        words += ["--extern", f"{name}={kit}/rlibs/{name}.rlib"]
     for name in below(crate, known):
         words += ["-L", f"dependency={Path('crates', name, 'out/rlib').resolve()}"]
     logic = ["--antt-project", f"{kit}/rattle/logic/antt-project.json", "--logic-built", f"{kit}/logic_built"]
@@ -281,14 +279,22 @@ def check_words(crate, known):
 
 
 def below(crate, known):
-    return {name for it in crate.below for name in [it, *below(known[it], known)]}
+    found, ahead = set(), [*crate.below]
+    while ahead:
+        name = ahead.pop()
+        if name not in found:
+            found.add(name)
+            ahead += known[name].below
+    return found
 
 
-def chain_of(crate, known, proofs):
-    """The dearest chain of proofs that ends in a crate, as its minutes and its names, lowest first."""
-    below = [chain_of(known[it], known, proofs) for it in crate.below]
-    minutes, names = max(below, default=(0, []))
-    return minutes + proofs[crate.name], [*names, crate.name]
+def chain_of(name, known, proofs, found):
+    """The dearest chain of proofs that ends in a crate, as its minutes and its names, lowest first. Those found before are in a dictionary."""
+    if name not in found:
+        below = [chain_of(it, known, proofs, found) for it in known[name].below]
+        minutes, names = max(below, default=(0, []))
+        found[name] = minutes + proofs[name], [*names, name]
+    return found[name]
 
 
 def cell(seconds):
@@ -303,17 +309,20 @@ def cell(seconds):
     return f"at least {minutes} ({lacking} not measured)" if lacking else minutes
 
 
+def row(head, numbers, count):
+    """A line of the table: the minutes of the proofs, of the tests and of the edits among some items, and of all."""
+    parts = [[number for item, number in numbers.items() if item.split("/")[1] == part] for part in ("proof", "tests", "edits")]
+    return f"| {' | '.join([head, *map(cell, parts), str(count), cell([*numbers.values()])])} |"
+
+
 def table():
     kept = json.loads(STORE.read_text(encoding="utf-8")) if STORE.exists() else {}
     known = crates()
     number = {item: kept.get(item, {}).get(sum) for crate in known.values() for item, sum in crate.items().items()}
-    lines = ["| Crate | Proof | Tests | Edits | of them | All |", "|---|---|---|---|---|---|"]
-    for crate in known.values():
-        every = {it: number[it] for it in crate.items()}
-        parts = [[number for it, number in every.items() if it.split("/")[1] == part] for part in ("proof", "tests", "edits")]
-        cells = [*map(cell, parts), str(len(crate.edits)), cell([*every.values()])]
-        lines.append(f"| `{crate.name}` | {' | '.join(cells)} |")
-    lines += [f"| all | {cell([*number.values()])} |".replace("all |", "all | | | | |"), ""]
+    lines = ["| Crate | Proof | Tests | Edits | Number of edits | All |", "|---|---|---|---|---|---|"]
+    for name, crate in known.items():
+        lines.append(row(f"`{name}`", {it: number[it] for it in crate.items()}, len(crate.edits)))
+    lines += [row("all", number, sum(len(crate.edits) for crate in known.values())), ""]
     lines += [chain_line(known, number), "", dearest_edits(number), "", dearest_functions(known, kept)]
     return "\n".join(lines)
 
@@ -321,7 +330,8 @@ def table():
 def chain_line(known, number):
     proofs = {it: (number[f"{it}/proof"] or 0) / 60 for it in known}
     tests = {it: (number.get(f"{it}/tests") or 0) / 60 for it in known}
-    chains = [chain_of(crate, known, proofs) for crate in known.values()]
+    found = {}
+    chains = [chain_of(it, known, proofs, found) for it in known]
     minutes, names = max((minutes + tests[names[-1]], names) for minutes, names in chains)
     lacking = [it for it in names if number[f"{it}/proof"] is None]
     told = f"at least {minutes:.1f}" if lacking else f"{minutes:.1f}"
