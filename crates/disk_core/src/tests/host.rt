@@ -53,13 +53,19 @@ impl Inode {
     // What was written is stable.
     fn sync(&mut self) -> io::Result<()> {
         self.stable.resize(self.seen.len(), 0)?;
-        while let Some((from, to)) = self.unsynced.pop() {
-            let bytes = self.seen.iter().take(to).skip(from);
-            for (place, byte) in self.stable.iter_mut().skip(from).zip(bytes) {
-                *place = *byte;
-            }
+        for range in self.unsynced.iter() {
+            copy_range(self.stable.as_mut_slice(), self.seen.as_slice(), *range);
         }
+        self.unsynced.clear();
         Ok(())
+    }
+}
+
+// Copies the bytes from one place up to another one.
+fn copy_range(to: &mut [u8], from: &[u8], range: (usize, usize)) {
+    let bytes = from.iter().take(range.1).skip(range.0);
+    for (place, byte) in to.iter_mut().skip(range.0).zip(bytes) {
+        *place = *byte;
     }
 }
 
@@ -263,18 +269,14 @@ impl HostFile {
 impl FileExt for HostFile {
     fn read_at(&self, buf: &mut [u8], offset: u64) -> io::Result<usize> {
         let mut state = self.call("pread")?;
-        let count = buf.len().min(state.most);
+        let most = buf.len().min(state.most);
         let inode = state.inode(self.inode)?;
-        let mut taken = 0;
-        for (place, byte) in buf
-            .iter_mut()
-            .take(count)
-            .zip(inode.seen.iter().skip(offset as usize))
-        {
+        let count = most.min(inode.seen.len().saturating_sub(offset as usize));
+        let bytes = inode.seen.iter().skip(offset as usize);
+        for (place, byte) in buf.iter_mut().take(count).zip(bytes) {
             *place = *byte;
-            taken += 1;
         }
-        Ok(taken)
+        Ok(count)
     }
 
     fn write_at(&self, buf: &[u8], offset: u64) -> io::Result<usize> {
@@ -319,13 +321,13 @@ fn unsupported<T>() -> io::Result<T> {
 
 impl Read for HostFile {
     fn read(&mut self, _buf: &mut [u8]) -> io::Result<usize> {
-        unsupported()
+        Err(io::Error::from(ErrorKind::Unsupported))
     }
 }
 
 impl Write for HostFile {
     fn write(&mut self, _buf: &[u8]) -> io::Result<usize> {
-        unsupported()
+        Err(io::Error::from(ErrorKind::Unsupported))
     }
 
     fn flush(&mut self) -> io::Result<()> {
