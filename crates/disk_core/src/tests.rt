@@ -254,6 +254,7 @@ fn files_are_made_and_opened_by_these_calls(rt: HostRuntime) -> Result<(), Fail>
     let mut bays = FileBays::new(alloc, &host);
     let mut disk = open_at(&rt, &mut bays, 2);
     assert_calls(&rt, &host, &FIRST_CALLS)?;
+    assert_eq!(rt; disk.size(), SIZE);
     assert_eq!(rt; write_synced(&mut disk, 4, &[1, 2, 3, 4]), Ok(()));
     assert_calls(&rt, &host, &["pwrite a/b/n1p2", "fdatasync a/b/n1p2"])?;
     bays.give_back(1, 2, disk);

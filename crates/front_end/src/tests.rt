@@ -1,14 +1,11 @@
 //! Whole runs, by the top call.
 
-ghost use Rattle.std.specs.Prelude.{◌≡◌, ◌^◌, ◌<◌, IfOk};
-ghost use Rattle.msg_format.specs.Records.{IsRecord, lsn_of};
+ghost use Rattle.lab_nodes.specs.Nodes.{AllTidy};
 
 use super::*;
-use blob_id::{Blob, BlobId, Bytes, Kind, Words};
-use disk_core::{Bays, Disk, FileBays, FuseBays, MemBays, Pick};
-use msg_format::Record;
+use blob_id::Words;
+use disk_core::{Bays, Disk, FileBays, FuseBays, FuseDisk, MemBays, MemDisk, Pick};
 use outside::{BytesSink, BytesSource, CountRandom, FailRandom, Random};
-use part_log::{LogFault, LogSettings, PartLog};
 use std::alloc::Global;
 use std::fs;
 use std::process::Abort;
@@ -34,7 +31,9 @@ fn script_of(alloc: Global, script: &[u8], fails: Vec<u64>) -> Result<BytesSourc
 }
 
 /// Bays in memory without disks, whose openings with these numbers fail.
-fn new_bays(alloc: Global, fails: Vec<u64>) -> MemBays {
+fn new_bays(alloc: Global, fails: Vec<u64>) -> MemBays
+    ensures { AllTidy ⟦<MemDisk as Disk>⟧.content ⟦<MemBays as Bays>⟧.home result }
+{
     MemBays::new(alloc, Pick::Drop, fails)
 }
 
@@ -48,6 +47,8 @@ fn run_over<B: Bays>(
 ) -> Result<(u8, BytesSink), Fail>
 where
     B::Disk: Drop,
+    requires { B.Disk.tells → AllTidy B.Disk.content B.home bays.old }
+    ensures { B.Disk.tells → AllTidy B.Disk.content B.home bays.new }
 {
     let words = words_of(alloc, words)?;
     let mut input = script_of(alloc, script, Vec::new(alloc))?;
@@ -488,6 +489,7 @@ fn run_twice<B: Bays>(
 ) -> Result<[(u8, BytesSink); 2], Fail>
 where
     B::Disk: Drop,
+    requires { B.Disk.tells → AllTidy B.Disk.content B.home bays.old }
 {
     let first = run_over(alloc, words[0], scripts[0], bays, Vec::new(alloc))?;
     let second = run_over(alloc, words[1], scripts[1], bays, Vec::new(alloc))?;
@@ -498,6 +500,7 @@ where
 fn keeps_what_was_put<B: Bays>(alloc: Global, bays: &mut B) -> Result<bool, Fail>
 where
     B::Disk: Drop,
+    requires { B.Disk.tells → AllTidy B.Disk.content B.home bays.old }
 {
     let [first, second] = run_twice(
         alloc,
@@ -564,7 +567,9 @@ fn a_disk_of_other_numbers_is_refused(rt: HostRuntime) -> Result<(), Fail> {
 }
 
 /// The same bays, of which the disk of node 1 and partition 0 passes so many calls, and then fails until it is stopped.
-fn fused_bays(alloc: Global, passes: u64) -> FuseBays {
+fn fused_bays(alloc: Global, passes: u64) -> FuseBays
+    ensures { AllTidy ⟦<FuseDisk<MemDisk> as Disk>⟧.content ⟦<FuseBays as Bays>⟧.home result }
+{
     let bays = MemBays::new(alloc, Pick::Drop, Vec::new(alloc));
     FuseBays::new(bays, 1, 0, passes)
 }
@@ -580,88 +585,5 @@ fn a_disk_that_fails_is_down_until_it_is_opened_again(rt: HostRuntime) -> Result
     let rest =
         b"a unavailable 0100000000000000000040008000000000000000 1:fault\nb begun\nb drew 0100000000000000000040008000000000000001\nb unavailable 0100000000000000000040008000000000000001 1:down\nstop 1 ok\nrestart 1 ok\nc begun\nc drew 0100000000000000000040008000000000000002\nc ok 0100000000000000000040008000000000000002\n";
     assert!(rt; is_begun_and(output.bytes(), rest));
-    Ok(())
-}
-
-/// The record of an id: a put of this body, or a delete where there is none.
-fn record_of(alloc: Global, lsn: u64, number: u64, body: Option<&[u8]>) -> Result<Record, Memory>
-    requires { lsn < 2 ^ 63 }
-    ensures fields { IfOk result (λ entry. IsRecord entry) }
-    ensures lsn { IfOk result (λ entry. lsn_of entry ≡ lsn) }
-{
-    let id = BlobId::draw(Kind::Simple, 0, 0, number);
-    match body {
-        Some(body) => {
-            let blob = Blob {
-                created: 5,
-                ctype: Bytes::new(alloc),
-                meta: Bytes::new(alloc),
-                body: Bytes::from_vec(body.to_vec(alloc)?),
-            };
-            Ok(Record::Put { lsn, id, blob })
-        }
-        None => Ok(Record::Delete {
-            lsn,
-            id,
-            created: 5,
-        }),
-    }
-}
-
-/// Puts the record of an id last in a log, whatever its other records are.
-fn append<D: Disk>(
-    alloc: Global,
-    log: &mut PartLog<D>,
-    number: u64,
-    body: Option<&[u8]>,
-) -> Result<u64, LogFault> {
-    let lsn = log.end_lsn();
-    if lsn >= 1 << 62 {
-        return Err(LogFault::Full);
-    }
-    let entry = record_of(alloc, lsn, number, body)?;
-    log.append(alloc, &entry)
-}
-
-/// Of a log that no replica wrote, where a put stands behind the delete of its id and another put behind the first one of its
-/// id, gets give the join: the one id is deleted, and the other has the first blob.
-#[test]
-fn a_log_of_any_records_is_joined(rt: HostRuntime) -> Result<(), Fail> {
-    let alloc = rt.alloc();
-    let mut bays = new_bays(alloc, Vec::new(alloc));
-    let Ok(disk) = bays.open("ambry-data", 1, 0, 4096 + 2 * 66_736) else {
-        panic!(rt; "no disk")
-    };
-    let settings = LogSettings {
-        segment: 66_736,
-        segments: 2,
-        index: 256,
-    };
-    let Ok((mut log, _)) = PartLog::open(alloc, disk, settings) else {
-        panic!(rt; "not opened")
-    };
-    let records: [(u64, Option<&[u8]>); 5] = [
-        (0, Some(b"once")),
-        (0, None),
-        (0, Some(b"again")),
-        (1, Some(b"first")),
-        (1, Some(b"second")),
-    ];
-    for (number, body) in records {
-        assert!(rt; append(alloc, &mut log, number, body).is_ok());
-    }
-    bays.give_back(1, 0, log.close());
-    let (status, output) = run_over(
-        alloc,
-        &["run", "--nodes=1", "--partitions=1", "--segments=2"],
-        b"get a 0100000000000000000040008000000000000000\nwait\nget b 0100000000000000000040008000000000000001\nwait\n",
-        &mut bays,
-        Vec::new(alloc),
-    )?;
-    assert_eq!(rt; status, 0);
-    assert_eq!(rt;
-        output.bytes(),
-        b"a begun\na deleted\nb begun\nb ok 5 6669727374\n".as_slice()
-    );
     Ok(())
 }
