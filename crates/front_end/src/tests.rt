@@ -1,10 +1,8 @@
 //! Whole runs, by the top call.
 
-ghost use Rattle.lab_nodes.specs.Nodes.{AllTidy};
-
 use super::*;
 use blob_id::Words;
-use disk_core::{Bays, Disk, FileBays, FuseBays, FuseDisk, MemBays, MemDisk, Pick};
+use disk_core::{Bays, Disk, FileBays, FuseBays, MemBays, Pick};
 use outside::{BytesSink, BytesSource, CountRandom, FailRandom, Random};
 use std::alloc::Global;
 use std::fs;
@@ -31,9 +29,7 @@ fn script_of(alloc: Global, script: &[u8], fails: Vec<u64>) -> Result<BytesSourc
 }
 
 /// Bays in memory without disks, whose openings with these numbers fail.
-fn new_bays(alloc: Global, fails: Vec<u64>) -> MemBays
-    ensures { AllTidy ⟦<MemDisk as Disk>⟧.content ⟦<MemBays as Bays>⟧.home result }
-{
+fn new_bays(alloc: Global, fails: Vec<u64>) -> MemBays {
     MemBays::new(alloc, Pick::Drop, fails)
 }
 
@@ -47,8 +43,6 @@ fn run_over<B: Bays>(
 ) -> Result<(u8, BytesSink), Fail>
 where
     B::Disk: Drop,
-    requires { B.Disk.tells → AllTidy B.Disk.content B.home bays.old }
-    ensures { B.Disk.tells → AllTidy B.Disk.content B.home bays.new }
 {
     let words = words_of(alloc, words)?;
     let mut input = script_of(alloc, script, Vec::new(alloc))?;
@@ -489,7 +483,6 @@ fn run_twice<B: Bays>(
 ) -> Result<[(u8, BytesSink); 2], Fail>
 where
     B::Disk: Drop,
-    requires { B.Disk.tells → AllTidy B.Disk.content B.home bays.old }
 {
     let first = run_over(alloc, words[0], scripts[0], bays, Vec::new(alloc))?;
     let second = run_over(alloc, words[1], scripts[1], bays, Vec::new(alloc))?;
@@ -500,7 +493,6 @@ where
 fn keeps_what_was_put<B: Bays>(alloc: Global, bays: &mut B) -> Result<bool, Fail>
 where
     B::Disk: Drop,
-    requires { B.Disk.tells → AllTidy B.Disk.content B.home bays.old }
 {
     let [first, second] = run_twice(
         alloc,
@@ -567,9 +559,7 @@ fn a_disk_of_other_numbers_is_refused(rt: HostRuntime) -> Result<(), Fail> {
 }
 
 /// The same bays, of which the disk of node 1 and partition 0 passes so many calls, and then fails until it is stopped.
-fn fused_bays(alloc: Global, passes: u64) -> FuseBays
-    ensures { AllTidy ⟦<FuseDisk<MemDisk> as Disk>⟧.content ⟦<FuseBays as Bays>⟧.home result }
-{
+fn fused_bays(alloc: Global, passes: u64) -> FuseBays {
     let bays = MemBays::new(alloc, Pick::Drop, Vec::new(alloc));
     FuseBays::new(bays, 1, 0, passes)
 }
