@@ -33,8 +33,8 @@
 //! What each pick leaves; a write that is listed to fail; that the write which blows a fuse reaches the disk below; each kind
 //! of bays once, files among them.
 //!
-//! Over a file system in memory, which lists calls, fails them and loses at a power cut what wasn't synced: the calls of an
-//! opening, a write and a sync, in order; writes that take a part of their bytes; that partitions have files of their own; an
+//! Over a file system in memory, which lists calls, fails them and loses at a power cut what wasn't synced: the calls of a
+//! write and a sync, in order; writes that take a part of their bytes; that partitions have files of their own; an
 //! error in each call of the first opening, and the opening behind the power cut; that what a failed sync forgot is written
 //! again, also behind `give_back` and `open`; an interrupted sync; a disk that is gone; a folder that another process holds.
 //!

@@ -248,35 +248,6 @@ fn assert_fault(rt: &impl Abort, bays: &mut FileBays<&Host>, fault: FileFault) {
 }
 
 #[test]
-fn files_are_made_and_opened_by_these_calls(rt: HostRuntime) -> Result<(), Fail> {
-    let alloc = rt.alloc();
-    let host = Host::new(alloc, 65_536, NEVER)?;
-    let mut bays = FileBays::new(alloc, &host);
-    let mut disk = open_at(&rt, &mut bays, 2);
-    assert_calls(&rt, &host, &FIRST_CALLS)?;
-    assert_eq!(rt; disk.size(), SIZE);
-    assert_eq!(rt; write_synced(&mut disk, 4, &[1, 2, 3, 4]), Ok(()));
-    assert_calls(&rt, &host, &["pwrite a/b/n1p2", "fdatasync a/b/n1p2"])?;
-    bays.give_back(1, 2, disk);
-    drop(bays);
-    let mut later = FileBays::new(alloc, &host);
-    let mut again = open_at(&rt, &mut later, 2);
-    assert_bytes(&rt, &mut again, 4, [1, 2, 3, 4]);
-    let calls = [
-        "open a/b/lock",
-        "flock a/b/lock",
-        "open a/b/n1p2",
-        "fstat a/b/n1p2",
-        "open a/b",
-        "fsync a/b",
-        "pread a/b/n1p2",
-    ];
-    assert_calls(&rt, &host, &calls)?;
-    later.give_back(1, 2, again);
-    Ok(())
-}
-
-#[test]
 fn a_write_is_done_once_all_its_bytes_are(rt: HostRuntime) -> Result<(), Fail> {
     let alloc = rt.alloc();
     let host = Host::new(alloc, 30_000, NEVER)?;
