@@ -6,13 +6,13 @@ use Rattle.disk_core.proofs.Ranges.{range_same, range-torn, torn_within, torn_tw
 use Rattle.disk_core.proofs.Changes.{chain, widen, image_from}
 use Rattle.gate_slots.specs.Gate.{ShutsGate, IsShut, OpensGate}
 use Rattle.gate_slots.specs.Cell.{WritesSlot}
-use Rattle.gate_slots.proofs.Gates.{byte_at}
+use Rattle.gate_slots.proofs.Gates.{byte_at, opened_before}
 
 shut_slot : (gate : ℕ) (rest d c : List ℕ) → ShutsGate gate d c → WritesSlot gate rest d c
 shut_slot gate rest d c shuts = record {
   torn = torn_within gate 1024 gate 1 d c shuts.torn (omega arith) (omega arith);
   opened = λ is. inl (range_same gate 1024 d c shuts.torn.size (λ k le lt. ⊎_elim
-      (λ (here : k < gate + 1). let at : k ≡ gate = omega arith in ap (λ (k : ℕ). get_or c k 0) at ∙ is ∙ sym (shuts.not_opened is) ∙ ap (λ (k : ℕ). get_or d k 0) (sym at))
+      (λ (here : k < gate + 1). let at : k ≡ gate = omega arith in ap (λ (k : ℕ). get_or c k 0) at ∙ is ∙ sym (opened_before gate d c shuts is) ∙ ap (λ (k : ℕ). get_or d k 0) (sym at))
       (λ (past : gate + 1 ≤ k). shuts.torn.others k (inr past))
       (cases_lt k (gate + 1))));
 }

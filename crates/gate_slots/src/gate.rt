@@ -3,7 +3,7 @@
 ghost use Rattle.std.specs.Prelude.{◌≡◌, ◌+◌, ◌<◌, ◌≤◌, length, slice_index, OnOk};
 ghost use Rattle.outside.specs.Causes.{HasCause};
 ghost use Rattle.disk_core.specs.Content.{ChangesBy, IsSettled, Only, Torn, range};
-ghost use Rattle.gate_slots.specs.Gate.{IsShut, OpensGate, ShutsGate, open_gate};
+ghost use Rattle.gate_slots.specs.Gate.{IsShut, IsZeroed, OpensGate, ShutsGate, open_gate};
 
 use disk_core::{Disk, write_synced};
 use outside::Failed;
@@ -11,7 +11,7 @@ use outside::Failed;
 /// The byte of an open gate. Every other byte is a closed gate, and a gate is closed by a 0.
 pub const OPEN: u8 = 0x4F;
 
-/// Closes a gate, if it is open, and syncs. A gate that is closed isn't written, since a stop in that write could open
+/// Closes a gate by a 0, if it is open, and syncs. A gate that is closed isn't written, since a stop in that write could open
 /// it before bytes that an earlier call left unfinished. It makes one call of the disk, or three.
 pub fn close_gate<D: Disk>(disk: &mut D, gate: u64) -> Result<(), Failed>
     requires place { gate < D.size disk.old }
@@ -19,6 +19,7 @@ pub fn close_gate<D: Disk>(disk: &mut D, gate: u64) -> Result<(), Failed>
 
     ensures during { D.tells → ChangesBy (ShutsGate gate) (D.content disk.old) (D.content disk.new) }
     ensures closed { OnOk result (D.tells → IsShut gate (D.content disk.new)) }
+    ensures zero { OnOk result (D.tells → slice_index (D.content disk.old).seen gate ≡ open_gate → IsZeroed gate (D.content disk.new)) }
     ensures outside { D.tells → Torn gate 1 (D.content disk.old).seen (D.content disk.new).seen }
 
     ensures size { D.size disk.new ≡ D.size disk.old }

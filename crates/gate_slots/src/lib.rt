@@ -17,7 +17,8 @@
 //!   other bytes of the disk as they were (`during`, `crash`); behind Ok the new value stands and is stable (`value`, `only`);
 //!   behind a failure reads elsewhere give what they gave (`outside`), and what is kept in memory stays (`kept`);
 //! - `load` gives exactly what the bytes stand for, and `restart` the old or the new value;
-//! - `write_gated` opens the gate only behind bytes that are stable, and `close_gate` writes no closed gate (`during`).
+//! - `write_gated` opens the gate only behind bytes that are stable (`during`), and `close_gate` writes no closed gate (`during`) and
+//!   a 0 over an open one (`zero`).
 //!
 //! Over every disk `TooLong` comes exactly above 1,011 bytes, and `Failed` only where the disk's count of faults rose.
 //!

@@ -51,8 +51,9 @@ fn main(rt: HostRuntime) -> Result<()> {
 /// Puts so many records of so many bytes into a new log: how many it has then.
 fn append_all<D: Disk + Drop>(alloc: Global, disk: D, count: u32, size: u16) -> Result<u64> {
     ensure!(disk.size() == DISK, "a disk of another size");
-    let (mut log, found) = match PartLog::open(alloc, disk, SETTINGS) {
-        Ok(opened) => opened,
+    let mut found = Vec::new(alloc);
+    let mut log = match PartLog::open(alloc, disk, SETTINGS, &mut found) {
+        Ok(log) => log,
         Err((fault, _)) => return Err(fault.into()),
     };
     ensure!(found.is_empty(), "the log isn't new");

@@ -1,20 +1,12 @@
 -- The first gate of a free segment is closed.
-use Rattle.std.proofs.Common.{◌≡◌, ℕ, ◌+◌, ◌≤◌, List, [], ◌∷◌, get_or, false, sym, ◌∙◌, ap, subst, arith, add-zero}
-use Rattle.disk_core.specs.Content.{Content, ChangesBy, Only, Holds, Torn}
-use Rattle.gate_slots.specs.Gate.{IsShut}
-use Rattle.gate_slots.proofs.Gates.{byte_at}
+use Rattle.std.proofs.Common.{◌≡◌, ℕ, ◌+◌, ◌≤◌, List, false, sym, ◌∙◌, subst, arith, add-zero}
+use Rattle.disk_core.specs.Content.{Content, ChangesBy, Torn}
 use Rattle.part_log.specs.Records.{Placed, records_of}
 use Rattle.part_log.specs.Segments.{place_of, is_among}
 use Rattle.part_log.specs.Images.{KeepsLog}
 use Rattle.part_log.specs.Log.{LogTable, IsTable, IsLog}
 use Rattle.part_log.proofs.Free.{without_from}
 use Rattle.part_log.proofs.NewSegment.{free_write, log_stays}
-
--- a zero that stands there alone closes the gate
-pub shut_there : (gate : ℕ) (old new : Content) → Holds gate (0 ∷ []) old.seen new.seen → Only new → IsShut gate new
-shut_there gate old new holds only c image at =
-    let zero_byte : get_or c gate 0 ≡ 0 = ap (λ (l : List ℕ). get_or l gate 0) (only c image) ∙ sym (byte_at gate new.seen) ∙ ap (λ (l : List ℕ). get_or l 0 0) holds.here in
-    omega (arith, zero_byte, at)
 
 module _ (table : LogTable) (target place : ℕ) (good : IsTable table) (free : is_among target table.segments ≡ false) (is : place ≡ place_of table.settings.segment target)
     (old new : Content) (placed : List Placed) (log : IsLog table old placed) (write : ChangesBy (Torn place 1) old new) where

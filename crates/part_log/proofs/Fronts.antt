@@ -2,7 +2,7 @@
 use Rattle.std.proofs.Common.{◌≡◌, ℕ, ◌≤◌, max, List, [], ◌∷◌, ◌++◌, get_or, take, drop, Option, refl, sym, ◌∙◌, ap, subst, arith}
 use Rattle.std.proofs.lemmas.List.{take-take}
 use Rattle.disk_core.specs.Content.{range}
-use Rattle.disk_core.proofs.Ranges.{get_or-range}
+use Rattle.disk_core.proofs.Ranges.{get_or-range, range_in}
 use Rattle.gate_slots.specs.Cell.{Cell, cell_at}
 use Rattle.gate_slots.specs.Slots.{CurrentSlot, IsLoaded}
 use Rattle.gate_slots.proofs.OtherSlot.{cell_same}
@@ -75,8 +75,16 @@ its_records table parts placed sized all = ap records_of all ∙ records_of-plac
 pub value_same : (c d : List ℕ) (value : Option (List ℕ)) → range 0 2048 c ≡ range 0 2048 d → (cell_at 0 d).value ≡ value → (cell_at 0 c).value ≡ value
 value_same c d value same was = ap (λ (x : Cell). x.value) (cell_same 0 c d same) ∙ was
 
--- and so is what was loaded of it
-pub loaded_same : (slots : CurrentSlot) (old new : List ℕ) → slots.base ≡ 0 → range 0 2048 new ≡ range 0 2048 old → IsLoaded slots old → IsLoaded slots new
-loaded_same slots old new base same was =
-    let cells : cell_at slots.base new ≡ cell_at slots.base old = subst (λ (b : ℕ). cell_at b new ≡ cell_at b old) (sym base) (cell_same 0 new old same) in
+-- and so is what was loaded of a cell that is the same
+pub loaded_same : (place : ℕ) (slots : CurrentSlot) (old new : List ℕ) → slots.base ≡ place → range place 2048 new ≡ range place 2048 old → IsLoaded slots old → IsLoaded slots new
+loaded_same place slots old new base same was =
+    let cells : cell_at slots.base new ≡ cell_at slots.base old = subst (λ (b : ℕ). cell_at b new ≡ cell_at b old) (sym base) (cell_same place new old same) in
     record { sequence = ap (λ (x : Cell). x.sequence) cells ∙ was.sequence; second = ap (λ (x : Cell). x.second) cells ∙ was.second }
+
+-- both cells are the same
+pub record BothSame (old new : List ℕ) : Type 0 where
+  pub manifest : range 0 2048 new ≡ range 0 2048 old
+  pub tokens : range 2048 2048 new ≡ range 2048 2048 old
+
+pub both_same : (old new : List ℕ) → range 0 4096 new ≡ range 0 4096 old → BothSame old new
+both_same old new same = record { manifest = range_in 0 4096 0 2048 new old same (omega arith); tokens = range_in 0 4096 2048 2048 new old same (omega arith) }

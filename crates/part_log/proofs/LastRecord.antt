@@ -19,7 +19,7 @@ use Rattle.part_log.specs.Log.{LogTable, manifest_of, AllFit, IsTable, IsFront, 
 use Rattle.part_log.proofs.Records.{laid-one, length-laid-one, AreWritten-one, RisesFrom-one, next_after-one, first_lsn-one, placed_from-one, entries_of-append}
 use Rattle.part_log.proofs.Segments.{write_in}
 use Rattle.part_log.proofs.Manifests.{Without, AllApart, named_apart, higher_floor, length-lives_of}
-use Rattle.part_log.proofs.Fronts.{front_same, shown_stands, value_same, loaded_same, its_records}
+use Rattle.part_log.proofs.Fronts.{front_same, shown_stands, value_same, loaded_same, both_same, its_records}
 
 -- the record stands behind the last one of the last segment
 abbrev pub with_last : List (List Written) → Written → List (List Written)
@@ -191,6 +191,7 @@ still_table table size below room good = record {
   fit = fit-with_more table.settings.segment table.segments size room good.fit;
   base = good.base;
   sequence = good.sequence;
+  tokens = good.tokens;
 }
 
 module _ (table : LogTable) (rest : List ℕ) (w : Written) (whole : 79 ∷ rest ≡ w.text ++ 0 ∷ []) (fields : Spells w.text w.entry) (next : lsn_of w.entry ≡ table.end)
@@ -207,21 +208,21 @@ module _ (table : LogTable) (rest : List ℕ) (w : Written) (whole : 79 ∷ rest
   below : table.end < 2 ^ 63
   below = omega (arith, (fields_of w.text w.entry fields).lsn, next)
 
-  cells_same : (d c : List ℕ) → OpensGate (place_of table.settings.segment (last_segment table.segments) + last_used table.segments) rest d c → range 0 2048 c ≡ range 0 2048 d
-  cells_same d c by = range-torn gate (length rest + 1) 0 2048 d c by.torn (inl (omega arith))
+  cells_same : (d c : List ℕ) → OpensGate (place_of table.settings.segment (last_segment table.segments) + last_used table.segments) rest d c → range 0 4096 c ≡ range 0 4096 d
+  cells_same d c by = range-torn gate (length rest + 1) 0 4096 d c by.torn (inl (omega arith))
 
   module _ (floor : ℕ) (parts : List (List Written)) (sized : AllSized table.segments parts) (rises : RisesFrom 0 (joined parts)) (ends : table.end ≡ max floor (next_after 0 (joined parts)))
       (d c : List ℕ) (by : OpensGate (place_of table.settings.segment (last_segment table.segments) + last_used table.segments) rest d c) (shown : IsShown table floor parts d) where
     shows_old : get_or c (place_of table.settings.segment (last_segment table.segments) + last_used table.segments) 0 ≢ 79 → IsShown table floor parts c
     shows_old shut = record {
-      value = value_same c d (Some (manifest_text (manifest_of table floor))) (cells_same d c by) shown.value;
+      value = value_same c d (Some (manifest_text (manifest_of table floor))) (both_same d c (cells_same d c by)).manifest shown.value;
       fronts = fronts_shut table.settings.segment rest w d c whole table.segments parts apart good.fit room by shut shown.fronts;
     }
 
     pub shows_new : place_of table.settings.segment (last_segment table.segments) + last_used table.segments < length c → get_or c (place_of table.settings.segment (last_segment table.segments) + last_used table.segments) 0 ≡ 79
         → IsShown (grown table (length w.text)) floor (with_last parts w) c
     shows_new inside is = record {
-      value = value_same c d (Some (manifest_text (manifest_of table floor))) (cells_same d c by) shown.value
+      value = value_same c d (Some (manifest_text (manifest_of table floor))) (both_same d c (cells_same d c by)).manifest shown.value
           ∙ ap (λ (l : List Live). Some (manifest_text (record { settings = table.settings; next_generation = table.next_generation; floor = floor; live = l }))) (sym (lives_of-with_more table.segments (length w.text)));
       fronts = fronts_open table.settings.segment rest w d c whole table.segments parts apart good.fit room inside by is shown.fronts;
     }
@@ -263,6 +264,7 @@ module _ (table : LogTable) (rest : List ℕ) (w : Written) (whole : 79 ∷ rest
     appended is only =
         let from = image_from (OpensGate gate rest) old new opens new.seen new.sees in
         let shown = shows_new log.floor log.parts log.sized log.rises log.ends from.0 new.seen from.2 (log.shown from.0 from.1) (inside_image from.0 new.seen from.1 from.2) is in
+        let cells = both_same old.seen new.seen (cells_same from.0 new.seen from.2 ∙ log.settled from.0 from.1) in
         record {
           floor = log.floor;
           parts = with_last log.parts w;
@@ -272,6 +274,7 @@ module _ (table : LogTable) (rest : List ℕ) (w : Written) (whole : 79 ∷ rest
           firsts = first-with_last table.segments log.parts w table.end next log.sized log.firsts;
           ends = still_ends log.floor log.parts log.sized log.rises log.ends from.0 new.seen from.2 (log.shown from.0 from.1);
           shown = λ c image. subst (λ (l : List ℕ). IsShown (grown table (length w.text)) log.floor (with_last log.parts w) l) (sym (only c image)) shown;
-          loaded = loaded_same table.slots old.seen new.seen good.base (cells_same from.0 new.seen from.2 ∙ log.settled from.0 from.1) log.loaded;
-          settled = λ c image. ap (range 0 2048) (only c image);
+          loaded = loaded_same 0 table.slots old.seen new.seen good.base cells.manifest log.loaded;
+          tokens = loaded_same 2048 table.tokens old.seen new.seen good.tokens.base cells.tokens log.tokens;
+          settled = λ c image. ap (range 0 4096) (only c image);
         }

@@ -1,8 +1,8 @@
 -- The layout that bytes have, and how it grows.
 use Rattle.std.proofs.Common.{◌≡◌, inl, inr, ℕ, suc, ◌+◌, ◌≤◌, max, List, [], ◌∷◌, length, None, refl, sym, ◌∙◌, ap, subst, arith, length-append}
-use Rattle.disk_core.specs.Content.{Content}
+use Rattle.disk_core.specs.Content.{Content, range}
 use Rattle.gate_slots.specs.Cell.{Cell, cell_at}
-use Rattle.gate_slots.specs.Slots.{CurrentSlot}
+use Rattle.gate_slots.specs.Slots.{CurrentSlot, IsLoaded}
 use Rattle.gate_slots.proofs.OtherSlot.{cell_same}
 use Rattle.log_manifest.specs.declared.manifest.LogSettings.{LogSettings}
 use Rattle.log_manifest.specs.declared.manifest.Manifest.{Manifest}
@@ -13,14 +13,14 @@ use Rattle.part_log.specs.Segments.{last_used, with_more}
 use Rattle.part_log.specs.Images.{AllHold, joined, last_size, HasLayout, IsLaidOut, StandsFor}
 use Rattle.part_log.specs.Layout.{Layout, first_layout, with_new_segment, with_size}
 use Rattle.part_log.specs.Log.{LogTable, AllSized, IsLog, IsShown, IsTable, grown, layout_of, manifest_of, new_info, rolled_table}
-use Rattle.part_log.proofs.Fronts.{all_hold}
+use Rattle.part_log.proofs.Fronts.{all_hold, both_same}
 use Rattle.part_log.proofs.Manifests.{length-lives_of, lower_floor}
 use Rattle.part_log.proofs.Meaning.{both_logs, not_new, one_manifest, one_parts}
 use Rattle.part_log.proofs.Room.{last_used-append}
 
--- layouts with the same five numbers are the same
-same_layout : (k l : Layout) → k.in_use ≡ l.in_use → k.used ≡ l.used → k.end ≡ l.end → k.next_generation ≡ l.next_generation → k.sequence ≡ l.sequence → k ≡ l
-same_layout k l in_use used end next sequence = λ i. record { in_use = in_use i; used = used i; end = end i; next_generation = next i; sequence = sequence i }
+-- layouts with the same six numbers are the same
+same_layout : (k l : Layout) → k.in_use ≡ l.in_use → k.used ≡ l.used → k.end ≡ l.end → k.next_generation ≡ l.next_generation → k.sequence ≡ l.sequence → k.tokens ≡ l.tokens → k ≡ l
+same_layout k l in_use used end next sequence tokens = λ i. record { in_use = in_use i; used = used i; end = end i; next_generation = next i; sequence = sequence i; tokens = tokens i }
 
 both_layouts : (settings : LogSettings) (bytes : List ℕ) (k l : Layout) → HasLayout settings bytes k → HasLayout settings bytes l → k ≡ l
 both_layouts settings bytes k l one two =
@@ -32,6 +32,7 @@ both_layouts settings bytes k l one two =
     (both_logs settings bytes one.records two.records k.end l.end one.log two.log).end
     (one.next_generation ∙ ap (λ (x : Manifest). x.next_generation) manifest ∙ sym two.next_generation)
     (one.sequence ∙ sym two.sequence)
+    (one.tokens ∙ sym two.tokens)
 
 not_both : (settings : LogSettings) (bytes : List ℕ) (k : Layout) → HasLayout settings bytes k → (cell_at 0 bytes).value ≡ None → ⊥
 not_both settings bytes k one none = not_new settings bytes one.records [] k.end 0 one.log (record { none = none; empty = refl; first = refl })
@@ -46,10 +47,10 @@ one_layout settings bytes k l (inr one) (inr two) = one.1 ∙ sym two.1
 -- and where they stand for records they have one
 pub some_layout : (settings : LogSettings) (bytes : List ℕ) (xs : List Record) (n : ℕ) → StandsFor settings bytes xs n → (layout : Layout) × IsLaidOut settings bytes layout
 some_layout settings bytes xs n (inl log) = (
-  record { in_use = length log.manifest.live; used = last_size log.parts; end = n; next_generation = log.manifest.next_generation; sequence = (cell_at 0 bytes).sequence },
-  inl (record { records = xs; log = log; in_use = refl; used = refl; next_generation = refl; sequence = refl }),
+  record { in_use = length log.manifest.live; used = last_size log.parts; end = n; next_generation = log.manifest.next_generation; sequence = (cell_at 0 bytes).sequence; tokens = (cell_at 2048 bytes).sequence },
+  inl (record { records = xs; log = log; in_use = refl; used = refl; next_generation = refl; sequence = refl; tokens = refl }),
 )
-some_layout settings bytes xs n (inr new) = (first_layout, inr (new.none, refl))
+some_layout settings bytes xs n (inr new) = (first_layout (cell_at 2048 bytes).sequence, inr (new.none, refl))
 
 -- the used bytes of the last segment are those of its records
 sized_last : (infos : List SegmentInfo) (parts : List (List Written)) → AllSized infos parts → last_used infos ≡ last_size parts
@@ -63,8 +64,8 @@ sized_last (info ∷ other ∷ infos) (part ∷ p ∷ parts) sized = sized_last 
 
 -- bytes that show a table's records have its layout
 pub shown_layout : (table : LogTable) (floor : ℕ) (parts : List (List Written)) (c : List ℕ) → IsTable table → AllSized table.segments parts → RisesFrom 0 (joined parts)
-    → table.end ≡ max floor (next_after 0 (joined parts)) → IsShown table floor parts c → table.slots.sequence ≡ (cell_at 0 c).sequence → HasLayout table.settings c (layout_of table)
-shown_layout table floor parts c good sized rises ends shown sequence = record {
+    → table.end ≡ max floor (next_after 0 (joined parts)) → IsShown table floor parts c → table.slots.sequence ≡ (cell_at 0 c).sequence → table.tokens.sequence ≡ (cell_at 2048 c).sequence → HasLayout table.settings c (layout_of table)
+shown_layout table floor parts c good sized rises ends shown sequence tokens = record {
   records = entries_of (joined parts);
   log = record {
     manifest = manifest_of table floor;
@@ -80,14 +81,20 @@ shown_layout table floor parts c good sized rises ends shown sequence = record {
   used = sized_last table.segments parts sized;
   next_generation = refl;
   sequence = sequence;
+  tokens = tokens;
 }
+
+-- the sequence of a cell that was loaded and is still the same
+pub sequence_same : (place : ℕ) (slots : CurrentSlot) (c seen : List ℕ) → slots.base ≡ place → range place 2048 c ≡ range place 2048 seen → IsLoaded slots seen → slots.sequence ≡ (cell_at place c).sequence
+sequence_same place slots c seen base same loaded = sym (ap (λ (x : Cell). x.sequence) (cell_same place c seen same) ∙ subst (λ (b : ℕ). (cell_at b seen).sequence ≡ slots.sequence) base loaded.sequence)
 
 -- whatever a crash leaves of a log has its layout
 pub log_layout : (table : LogTable) (content : Content) (placed : List Placed) → IsTable table → IsLog table content placed → (c : List ℕ) → content.images c → IsLaidOut table.settings c (layout_of table)
 log_layout table content placed good log c image =
-    let loaded : (cell_at 0 content.seen).sequence ≡ table.slots.sequence = subst (λ (b : ℕ). (cell_at b content.seen).sequence ≡ table.slots.sequence) good.base log.loaded.sequence in
-    let same : (cell_at 0 c).sequence ≡ (cell_at 0 content.seen).sequence = ap (λ (x : Cell). x.sequence) (cell_same 0 c content.seen (log.settled c image)) in
-    inl (shown_layout table log.floor log.parts c good log.sized log.rises log.ends (log.shown c image) (sym (same ∙ loaded)))
+    let same = both_same content.seen c (log.settled c image) in
+    inl (shown_layout table log.floor log.parts c good log.sized log.rises log.ends (log.shown c image)
+    (sequence_same 0 table.slots c content.seen good.base same.manifest log.loaded)
+    (sequence_same 2048 table.tokens c content.seen good.tokens.base same.tokens log.tokens))
 
 -- the layout after a roll
 pub rolled_layout : (table : LogTable) (target : ℕ) (slots : CurrentSlot) → slots.sequence ≡ table.slots.sequence + 1 → layout_of (rolled_table table target slots) ≡ with_new_segment (layout_of table)
@@ -97,6 +104,7 @@ rolled_layout table target slots sequence = same_layout (layout_of (rolled_table
     refl
     refl
     sequence
+    refl
 
 length-with_more : (infos : List SegmentInfo) (size : ℕ) → length (with_more infos size) ≡ length infos
 length-with_more [] size = refl
@@ -114,6 +122,7 @@ pub grown_layout : (table : LogTable) (size : ℕ) → IsTable table → layout_
 grown_layout table size good = same_layout (layout_of (grown table size)) (with_size (layout_of table) size)
     (length-with_more table.segments size)
     (last_used-with_more table.segments size (omega (arith, good.manifest.some, length-lives_of table.segments)))
+    refl
     refl
     refl
     refl

@@ -21,3 +21,8 @@ pub mod Wholes
 pub mod Staying
 pub mod Meaning
 pub mod Layouts
+pub mod Damage
+pub mod Tables
+pub mod Marking
+pub mod Starts
+pub mod Pages

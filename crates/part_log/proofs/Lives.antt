@@ -1,22 +1,23 @@
 -- The records of live segments, read one segment after the other.
 use Rattle.std.proofs.Common.{◌≡◌, ◌≢◌, inl, inr, ℕ, ◌+◌, ◌-◌, ◌<◌, ◌≤◌, List, [], ◌∷◌, ◌++◌, length, take, drop, get_or, set, Bool, true, false, ◌==◌, if◌then◌else◌, refl, sym, ◌∙◌, ap, subst, arith, append_assoc, length-append, add-zero}
-use Rattle.std.proofs.lemmas.Bool.Decides.{nat_tests}
 use Rattle.std.proofs.lemmas.List.{append-nil, drop_more, drop-set, take-set, take-take, get_or-take}
 use Rattle.disk_core.specs.Content.{range}
 use Rattle.disk_core.proofs.Ranges.{get_or-range, length-range}
 use Rattle.log_manifest.specs.declared.manifest.Live.{Live}
-use Rattle.msg_format.specs.Records.{head_of}
 use Rattle.msg_format.proofs.Spelled.{text_long}
+use Rattle.part_log.specs.declared.marks.Mark.{Mark}
 use Rattle.part_log.specs.declared.segment.Found.{Found}
 use Rattle.part_log.specs.declared.segment.SegmentInfo.{SegmentInfo}
 use Rattle.part_log.specs.Records.{Written, laid, AreWritten, EndsHere, RisesFrom, next_after, first_lsn, Placed, placed_from}
-use Rattle.part_log.specs.Segments.{place_of, lives_of, next_first, with_firsts}
+use Rattle.part_log.specs.Segments.{place_of, live_of, lives_of, next_first, with_firsts}
 use Rattle.part_log.specs.Images.{joined, AllHold, EndsBadly, EndBadly}
 use Rattle.part_log.specs.Log.{AllFit, AllSized, AllFront, AllFirst, IsFront, placed_in}
-use Rattle.part_log.specs.Scan.{found_of, AllKnown, AreRead, IsRead}
+use Rattle.part_log.specs.Marks.{MarksOn}
+use Rattle.part_log.specs.Scan.{found_of, AllKnown, AreRead, IsRead, TakesAll}
 use Rattle.part_log.proofs.Records.{RisesFrom-append, next_after-append}
-use Rattle.part_log.proofs.Scanning.{found_of-append}
+use Rattle.part_log.proofs.Scanning.{eq_true, eq_false, found_of-append, takes_more}
 use Rattle.part_log.proofs.Fronts.{all_hold}
+use Rattle.part_log.proofs.Marking.{marks_more}
 
 sized-more : (infos : List SegmentInfo) (parts : List (List Written)) (info : SegmentInfo) (part : List Written) → info.used ≡ length (laid part) → AreWritten part → AllSized infos parts → AllSized (infos ++ info ∷ []) (parts ++ part ∷ [])
 sized-more [] [] info part size good sized = (size, good, tt)
@@ -58,33 +59,41 @@ shut_from : (start used segment : ℕ) (seen : List ℕ) → EndsHere (range (st
 shut_from start used segment seen (inl few) inside room is = omega (arith, few, length-range (start + used) (segment - used) seen (omega (arith, inside, room)), room)
 shut_from start used segment seen (inr shut) inside room is = shut (get_or-range (start + used) (segment - used) seen 0 (omega (arith, room)) ∙ ap (λ (k : ℕ). get_or seen k 0) (add-zero (start + used)) ∙ is)
 
-module _ (segment : ℕ) (seen : List ℕ) (infos : List SegmentInfo) (low : ℕ) (found : List Found) (parts : List (List Written)) (read : AreRead segment seen infos low found parts)
-    (info : SegmentInfo) (next : ℕ) (more : List Found) (written : List Written) (one : IsRead (place_of segment info.segment) low found seen info.used next more written) where
-  pub live_more : (1 ≤ info.used → info.first ≡ first_lsn written 0) → EndsHere (range (place_of segment info.segment + info.used) (segment - info.used) seen) → place_of segment info.segment + segment ≤ length seen
-      → AreRead segment seen (infos ++ info ∷ []) next more (parts ++ written ∷ [])
-  live_more first ends inside = record {
+module _ (segment : ℕ) (seen : List ℕ) (infos : List SegmentInfo) (low : ℕ) (parts : List (List Written)) (read : AreRead segment seen infos low parts) (info : SegmentInfo) (next : ℕ) (written : List Written) where
+  pub live_more : IsRead (place_of segment info.segment) low seen (record { used = info.used; first = info.first }) next written → EndsHere (range (place_of segment info.segment + info.used) (segment - info.used) seen) → place_of segment info.segment + segment ≤ length seen
+      → AreRead segment seen (infos ++ info ∷ []) next (parts ++ written ∷ [])
+  live_more one ends inside = record {
     sized = sized-more infos parts info written (sym one.size) one.good read.sized;
-    known = known-more infos parts info written first read.sized read.known;
+    known = known-more infos parts info written (λ some. one.first_is) read.sized read.known;
     fronts = front-more segment infos parts info written seen (record { front = one.front; shut = shut_from (place_of segment info.segment) info.used segment seen ends inside }) read.fronts;
     rises = subst (λ (l : List Written). RisesFrom 0 l) (sym (joined-last parts written)) (RisesFrom-append 0 (joined parts) written read.rises (subst (λ (k : ℕ). RisesFrom k written) read.next_is one.rises));
     next_is = one.next_is ∙ ap (λ (k : ℕ). next_after k written) read.next_is ∙ sym (next_after-append 0 (joined parts) written) ∙ ap (λ (l : List Written). next_after 0 l) (sym (joined-last parts written));
-    found_is = one.found_is
-        ∙ ap (λ (l : List Found). l ++ found_of (placed_from (place_of segment info.segment) written)) read.found_is
-        ∙ sym (found_of-append (placed_in segment infos parts) (placed_from (place_of segment info.segment) written))
-        ∙ ap found_of (sym (placed-more segment infos parts info written read.sized));
   }
 
--- the first record that was found in a segment
-pub first_found : (start low : ℕ) (before : List Found) (seen : List ℕ) (used next : ℕ) (found : List Found) (written : List Written) (lsn : ℕ) → IsRead start low before seen used next found written
-    → ((front more : List Found) → (one : Found) → found ≡ front ++ one ∷ more → length front ≡ length before → lsn ≡ one.head.lsn) → 1 ≤ used → lsn ≡ first_lsn written 0
-first_found start low before seen used next found [] lsn read given some = absurd (omega (arith, read.size, some))
-first_found start low before seen used next found (w ∷ written) lsn read given some = given before (found_of (placed_from (start + length w.text) written)) (record { place = start; head = head_of w.entry w.text }) read.found_is refl
+  pub taken_more : {C : Type 0} (takes : C → Found → C → Type 0) (old mid new : C) (start : ℕ) → start ≡ place_of segment info.segment → TakesAll takes old (found_of (placed_in segment infos parts)) mid → TakesAll takes mid (found_of (placed_from start written)) new
+      → TakesAll takes old (found_of (placed_in segment (infos ++ info ∷ []) (parts ++ written ∷ []))) new
+  taken_more takes old mid new start is first second =
+      let all : found_of (placed_in segment (infos ++ info ∷ []) (parts ++ written ∷ [])) ≡ found_of (placed_in segment infos parts) ++ found_of (placed_from start written) =
+      ap found_of (placed-more segment infos parts info written read.sized)
+      ∙ found_of-append (placed_in segment infos parts) (placed_from (place_of segment info.segment) written)
+      ∙ ap (λ (k : ℕ). found_of (placed_in segment infos parts) ++ found_of (placed_from k written)) (sym is) in
+      subst (λ (l : List Found). TakesAll takes old l new) (sym all) (takes_more takes old (found_of (placed_in segment infos parts)) (found_of (placed_from start written)) mid new first second)
+
+  pub marked_more : (old mid new : List Mark) (start : ℕ) → start ≡ place_of segment info.segment → MarksOn old (placed_in segment infos parts) mid → MarksOn mid (placed_from start written) new → MarksOn old (placed_in segment (infos ++ info ∷ []) (parts ++ written ∷ [])) new
+  marked_more old mid new start is first second =
+      let all : placed_in segment (infos ++ info ∷ []) (parts ++ written ∷ []) ≡ placed_in segment infos parts ++ placed_from start written =
+      placed-more segment infos parts info written read.sized ∙ ap (λ (k : ℕ). placed_in segment infos parts ++ placed_from k written) (sym is) in
+      subst (λ (l : List Placed). MarksOn old l new) (sym all) (marks_more old mid new (placed_in segment infos parts) (placed_from start written) first second)
+
+pub lives-more : (infos : List SegmentInfo) (info : SegmentInfo) → lives_of (infos ++ info ∷ []) ≡ lives_of infos ++ live_of info ∷ []
+lives-more [] info = refl
+lives-more (x ∷ infos) info = ap (λ (l : List Live). live_of x ∷ l) (lives-more infos info)
 
 -- what stands in front of a segment that ends badly
-pub badly_among : (segment : ℕ) (seen : List ℕ) (lives : List Live) (before : List Live) (live : Live) (after : List Live) (infos : List SegmentInfo) (next : ℕ) (found : List Found) (parts : List (List Written)) (at offset : ℕ)
-    → lives ≡ before ++ live ∷ after → lives_of infos ≡ before → AllFit segment infos → AreRead segment seen infos next found parts → EndsBadly next (range (place_of segment live.segment) segment seen) offset
+pub badly_among : (segment : ℕ) (seen : List ℕ) (lives : List Live) (before : List Live) (live : Live) (after : List Live) (infos : List SegmentInfo) (next : ℕ) (parts : List (List Written)) (at offset : ℕ)
+    → lives ≡ before ++ live ∷ after → lives_of infos ≡ before → AllFit segment infos → AreRead segment seen infos next parts → EndsBadly next (range (place_of segment live.segment) segment seen) offset
     → at ≡ place_of segment live.segment + offset → EndBadly segment seen lives at
-badly_among segment seen lives before live after infos next found parts at offset split same fit read bad is = record {
+badly_among segment seen lives before live after infos next parts at offset split same fit read bad is = record {
   before = before;
   live = live;
   after = after;
@@ -98,12 +107,6 @@ badly_among segment seen lives before live after infos next found parts at offse
 }
 
 -- first lsns that are filled in
-eq_true : (m n : ℕ) → m ≡ n → (m == n) ≡ true
-eq_true m n same = grind (arith, nat_tests)
-
-eq_false : (m n : ℕ) → m ≢ n → (m == n) ≡ false
-eq_false m n other = grind (arith, nat_tests)
-
 first_is : (infos : List SegmentInfo) (parts : List (List Written)) (end : ℕ) → AllSized infos parts → AllKnown infos parts → next_first infos end ≡ first_lsn (joined parts) end
 first_is [] [] end sized known = refl
 first_is [] (part ∷ parts) end sized known = absurd sized

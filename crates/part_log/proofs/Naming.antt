@@ -1,9 +1,11 @@
 -- A roll: a free segment is named by the manifest.
-use Rattle.std.proofs.Common.{◌≡◌, inl, ℕ, ◌+◌, ◌-◌, ◌<◌, ◌≤◌, ◌^◌, List, [], ◌∷◌, Some, not, sym, ◌∙◌, ap, subst, arith}
+use Rattle.std.proofs.Common.{◌≡◌, inl, inr, ℕ, ◌+◌, ◌-◌, ◌<◌, ◌≤◌, ◌^◌, List, [], ◌∷◌, get_or, Some, not, sym, ◌∙◌, ap, subst, arith}
 use Rattle.disk_core.specs.Content.{Content, ChangesBy, Only, Holds, Torn}
 use Rattle.disk_core.proofs.Ranges.{range-torn}
 use Rattle.gate_slots.specs.Cell.{cell_at, ReplacesCell}
+use Rattle.gate_slots.specs.Gate.{IsZeroed}
 use Rattle.gate_slots.specs.Slots.{CurrentSlot, IsLoaded}
+use Rattle.gate_slots.proofs.Gates.{byte_at}
 use Rattle.part_log.specs.Records.{Placed, records_of}
 use Rattle.part_log.specs.Segments.{place_of, ChangesIn}
 use Rattle.part_log.specs.Images.{KeepsLog}
@@ -47,7 +49,12 @@ named_outside segment target place base old mid new first some is torn replaced 
     writes_twice segment target old mid new (write_first segment target place old mid some is torn) (write_cell segment target mid new (subst (λ (b : ℕ). Torn b 2048 mid new) first replaced))
 
 pub still_loaded : (slots : CurrentSlot) (place n : ℕ) (old new : List ℕ) → slots.base ≡ 0 → 4096 ≤ place → Torn place n old new → IsLoaded slots old → IsLoaded slots new
-still_loaded slots place n old new base behind torn loaded = loaded_same slots old new base (range-torn place n 0 2048 old new torn (inl (omega (arith, behind)))) loaded
+still_loaded slots place n old new base behind torn loaded = loaded_same 0 slots old new base (range-torn place n 0 2048 old new torn (inl (omega (arith, behind)))) loaded
+
+-- the gate that was closed stays so while the manifest's cell is replaced
+pub still_zeroed : (base place : ℕ) (old mid new : Content) → base ≡ 0 → 4096 ≤ place → Holds place (0 ∷ []) old.seen mid.seen → Torn base 2048 mid.seen new.seen → Only new → IsZeroed place new
+still_zeroed base place old mid new first behind holds torn only c image =
+    ap (λ (l : List ℕ). get_or l place 0) (only c image) ∙ torn.others place (inr (omega (arith, first, behind))) ∙ sym (byte_at place mid.seen) ∙ ap (λ (l : List ℕ). get_or l 0 0) holds.here
 
 pub first_base : (slots after : CurrentSlot) → slots.base ≡ 0 → after ≡ record { base = slots.base; sequence = slots.sequence + 1; second = not slots.second } → after ≡ record { base = 0; sequence = slots.sequence + 1; second = not slots.second }
 first_base slots after base is = is ∙ ap (λ (b : ℕ). record { base = b; sequence = slots.sequence + 1; second = not slots.second }) base

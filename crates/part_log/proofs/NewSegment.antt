@@ -19,7 +19,7 @@ use Rattle.part_log.specs.Images.{joined, HasLog, KeepsLog}
 use Rattle.part_log.specs.Log.{LogTable, manifest_of, AllFit, IsTable, IsFront, AllFront, AllSized, AllFirst, placed_in, IsShown, IsLog, new_info, with_segment, rolled_table}
 use Rattle.part_log.proofs.Segments.{write_in, write_cell, writes_twice}
 use Rattle.part_log.proofs.Manifests.{Without, length-lives_of}
-use Rattle.part_log.proofs.Fronts.{fronts_stay, shown_stands, value_same, loaded_same, its_records}
+use Rattle.part_log.proofs.Fronts.{fronts_stay, shown_stands, value_same, loaded_same, both_same, its_records}
 
 pub lives_of-append : (xs ys : List SegmentInfo) → lives_of (xs ++ ys) ≡ lives_of xs ++ lives_of ys
 lives_of-append [] ys = refl
@@ -96,12 +96,12 @@ module _ (table : LogTable) (target at n : ℕ) (good : IsTable table) (apart : 
   abbrev place : ℕ
   place = place_of table.settings.segment target + at
 
-  cell_stays : (d c : List ℕ) → Torn (place_of table.settings.segment target + at) n d c → range 0 2048 c ≡ range 0 2048 d
-  cell_stays d c torn = range-torn place n 0 2048 d c torn (inl (omega arith))
+  cells_stay : (d c : List ℕ) → Torn (place_of table.settings.segment target + at) n d c → range 0 4096 c ≡ range 0 4096 d
+  cells_stay d c torn = range-torn place n 0 4096 d c torn (inl (omega arith))
 
   stays_shown : (floor : ℕ) (parts : List (List Written)) (d c : List ℕ) → Torn (place_of table.settings.segment target + at) n d c → IsShown table floor parts d → IsShown table floor parts c
   stays_shown floor parts d c torn shown = record {
-    value = value_same c d (Some (manifest_text (manifest_of table floor))) (cell_stays d c torn) shown.value;
+    value = value_same c d (Some (manifest_text (manifest_of table floor))) (both_same d c (cells_stay d c torn)).manifest shown.value;
     fronts = fronts_stay table.settings.segment target table.segments parts d c (write_in table.settings.segment target at n d c fits torn) apart good.fit shown.fronts;
   }
 
@@ -123,8 +123,9 @@ module _ (table : LogTable) (target at n : ℕ) (good : IsTable table) (apart : 
       firsts = log.firsts;
       ends = log.ends;
       shown = λ c image. let from = image_from (Torn place n) old new write c image in stays_shown log.floor log.parts from.0 c from.2 (log.shown from.0 from.1);
-      loaded = loaded_same table.slots old.seen new.seen good.base (cell_stays old.seen new.seen seen) log.loaded;
-      settled = λ c image. let from = image_from (Torn place n) old new write c image in cell_stays from.0 c from.2 ∙ log.settled from.0 from.1 ∙ sym (cell_stays old.seen new.seen seen);
+      loaded = loaded_same 0 table.slots old.seen new.seen good.base (both_same old.seen new.seen (cells_stay old.seen new.seen seen)).manifest log.loaded;
+      tokens = loaded_same 2048 table.tokens old.seen new.seen good.tokens.base (both_same old.seen new.seen (cells_stay old.seen new.seen seen)).tokens log.tokens;
+      settled = λ c image. let from = image_from (Torn place n) old new write c image in cells_stay from.0 c from.2 ∙ log.settled from.0 from.1 ∙ sym (cells_stay old.seen new.seen seen);
     }
 
 -- The manifest's cell is replaced by one that names a new segment too, in which no record stands.
@@ -137,6 +138,7 @@ module _ (table : LogTable) (target : ℕ) (slots : CurrentSlot) (text : List �
     fit = fit-append table.settings.segment table.segments (new_info table target) (omega arith) good.fit;
     base = base;
     sequence = sequence;
+    tokens = good.tokens;
   }
 
   named_too : (floor : ℕ) (parts : List (List Written)) (d c : List ℕ) → get_or d (place_of table.settings.segment target) 0 ≢ 79 → ReplacesCell 0 text d c → (cell_at 0 c).value ≡ Some text → IsShown table floor parts d
@@ -220,6 +222,10 @@ module _ (table : LogTable) (target : ℕ) (slots : CurrentSlot) (text : List �
         rolled_log value loaded only_new =
             let from = image_from (ReplacesCell 0 text) mid new replaces new.seen new.sees in
             let shown = named_too log.floor log.parts from.0 new.seen (shut from.0 from.1) from.2 value (blank_log.shown from.0 from.1) in
+            let same_tokens : range 2048 2048 new.seen ≡ range 2048 2048 old.seen =
+            range-torn 0 2048 2048 2048 from.0 new.seen from.2.torn (inr (omega arith))
+            ∙ ap (range 2048 2048) (only from.0 from.1)
+            ∙ range-torn (place_of table.settings.segment target) 1 2048 2048 old.seen mid.seen torn (inl (omega arith)) in
             record {
               floor = table.end;
               parts = log.parts ++ [] ∷ [];
@@ -230,5 +236,6 @@ module _ (table : LogTable) (target : ℕ) (slots : CurrentSlot) (text : List �
               ends = rolled_ends;
               shown = λ c image. subst (λ (l : List ℕ). IsShown (rolled_table table target slots) table.end (log.parts ++ [] ∷ []) l) (sym (only_new c image)) shown;
               loaded = loaded;
-              settled = λ c image. ap (range 0 2048) (only_new c image);
+              tokens = loaded_same 2048 table.tokens old.seen new.seen good.tokens.base same_tokens log.tokens;
+              settled = λ c image. ap (range 0 4096) (only_new c image);
             }

@@ -1,8 +1,8 @@
 -- A record that is put last, as the code does it.
-use Rattle.std.proofs.Common.{◌≡◌, ◌≢◌, inl, ℕ, suc, ◌+◌, ◌-◌, ◌<◌, ◌≤◌, ◌^◌, List, [], ◌∷◌, ◌++◌, length, get_or, set, All, refl, ◌∙◌, ap, subst, arith}
-use Rattle.disk_core.specs.Content.{Content, ChangesBy, Only, Torn}
+use Rattle.std.proofs.Common.{◌≡◌, ◌≢◌, inl, ℕ, suc, ◌+◌, ◌-◌, ◌<◌, ◌≤◌, ◌^◌, List, [], ◌∷◌, ◌++◌, length, get_or, set, All, refl, sym, ◌∙◌, ap, subst, arith}
+use Rattle.disk_core.specs.Content.{Content, ChangesBy, Only, Torn, range}
 use Rattle.disk_core.proofs.Changes.{chain, widen, image_from}
-use Rattle.gate_slots.specs.Gate.{IsShut, OpensGate}
+use Rattle.gate_slots.specs.Gate.{IsShut, IsZeroed, OpensGate}
 use Rattle.log_manifest.specs.declared.manifest.Manifest.{Manifest}
 use Rattle.log_manifest.specs.Manifests.{IsLive}
 use Rattle.msg_format.specs.declared.record.Record.{Record}
@@ -17,7 +17,7 @@ use Rattle.part_log.proofs.Texts.{size_of_text}
 use Rattle.part_log.proofs.Manifests.{length-lives_of}
 use Rattle.part_log.proofs.Segments.{write_in, writes_twice}
 use Rattle.part_log.proofs.Room.{inside_from}
-use Rattle.part_log.proofs.LastRecord.{long_rest, appending, appended, still_table}
+use Rattle.part_log.proofs.LastRecord.{long_rest, next_byte, appending, appended, still_table}
 
 -- the gate behind the last record is closed
 last_shut : (segment : ℕ) (infos : List SegmentInfo) (parts : List (List Written)) (c : List ℕ) → 1 ≤ length infos → last_used infos + 2 ≤ segment → AllFront segment infos parts c → get_or c (place_of segment (last_segment infos) + last_used infos) 0 ≢ 79
@@ -56,6 +56,13 @@ module _ (table : LogTable) (good : IsTable table) where
 
     pub put_outside : (old new : List ℕ) → Torn (next_place table) (length rest + 1) old new → ChangesIn table.settings.segment (last_segment table.segments) old new
     put_outside old new torn = write_in table.settings.segment (last_segment table.segments) (last_used table.segments) (length rest + 1) old new (omega (arith, room, size_of_rest)) torn
+
+    -- the gate behind the record
+    pub put_zeroed : (new : Content) → next_place table < length new.seen → get_or new.seen (next_place table) 0 ≡ 79 → range (next_place table + 1) (length rest) new.seen ≡ rest → Only new → IsZeroed (next_place table + record_size entry) new
+    put_zeroed new inside is behind only c image =
+        ap (λ (l : List ℕ). get_or l (next_place table + record_size entry) 0) (only c image)
+        ∙ ap (λ (n : ℕ). get_or new.seen (next_place table + n) 0) (sym (size_of_text entry follows.fields))
+        ∙ next_byte (spelling_of entry) rest new.seen (next_place table) inside is behind follows.whole
 
     pub put_table : table.end < 2 ^ 62 → IsTable (grown table (record_size entry))
     put_table below = still_table table (record_size entry) (omega (arith, below)) room good

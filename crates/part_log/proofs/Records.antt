@@ -1,7 +1,7 @@
 -- Records in bytes.
 use Rattle.std.proofs.Common.{◌≡◌, ◌≢◌, inl, inr, ⊎_elim, ℕ, ◌+◌, ◌-◌, ◌<◌, ◌≤◌, List, [], ◌∷◌, ◌++◌, length, get_or, drop, refl, sym, ◌∙◌, ap, arith, append_assoc, length-append, add-zero}
 use Rattle.std.proofs.lemmas.Bool.{cases_lt}
-use Rattle.std.proofs.lemmas.List.{drop_at, length-take, append-nil}
+use Rattle.std.proofs.lemmas.List.{length-take, append-nil}
 use Rattle.disk_core.specs.Content.{range}
 use Rattle.disk_core.proofs.Ranges.{range-split, get_or-range}
 use Rattle.msg_format.specs.declared.record.Record.{Record}

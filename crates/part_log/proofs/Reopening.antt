@@ -9,51 +9,52 @@ use Rattle.log_manifest.specs.declared.manifest.Live.{Live}
 use Rattle.log_manifest.specs.declared.manifest.Manifest.{Manifest}
 use Rattle.log_manifest.specs.Manifests.{IsManifest, manifest_text}
 use Rattle.msg_format.specs.declared.record.Record.{Record}
-use Rattle.part_log.specs.declared.segment.Found.{Found}
 use Rattle.part_log.specs.declared.segment.SegmentInfo.{SegmentInfo}
 use Rattle.part_log.specs.Records.{Written, next_after, records_of}
 use Rattle.part_log.specs.Segments.{place_of, lives_of, with_firsts}
 use Rattle.part_log.specs.Images.{joined, HasLog, HasBadRecord, EndBadly, IsLaidOut, OpensLog, manifest_gate}
-use Rattle.part_log.specs.Log.{LogTable, AreInRange, AllFit, IsLog, IsShown, IsTable, layout_of, manifest_of, placed_in, disk_size}
+use Rattle.part_log.specs.Log.{LogTable, AreInRange, AllFit, IsLog, IsShown, IsTable, IsTokenSlot, layout_of, manifest_of, placed_in, disk_size}
 use Rattle.part_log.specs.Scan.{AreRead}
 use Rattle.part_log.proofs.Manifests.{higher_floor}
 use Rattle.part_log.proofs.Segments.{no_write}
 use Rattle.part_log.proofs.Fronts.{shown_stands, records_of-placed_in}
 use Rattle.part_log.proofs.Layouts.{log_layout}
 use Rattle.part_log.proofs.Lives.{lives_filled, sized_filled, fit_filled, fronts_filled, placed_filled, firsts_filled}
+use Rattle.part_log.proofs.Tables.{table_of}
 
 module _ (manifest : Manifest) (good : IsManifest manifest) (ranges : AreInRange manifest.settings) (infos : List SegmentInfo) (lives : lives_of infos ≡ manifest.live) (fit : AllFit manifest.settings.segment infos)
-    (slots : CurrentSlot) (base : slots.base ≡ 0) (sequence : slots.sequence < 2 ^ 63) (next end : ℕ) (end_is : end ≡ max manifest.floor next) (most : next ≤ 2 ^ 63) where
+    (slots : CurrentSlot) (base : slots.base ≡ 0) (sequence : slots.sequence < 2 ^ 63) (tokens : CurrentSlot) (tokens_good : IsTokenSlot tokens) (next end : ℕ) (end_is : end ≡ max manifest.floor next) (most : next ≤ 2 ^ 63) where
   abbrev pub read_table : LogTable
-  read_table = record { settings = manifest.settings; segments = with_firsts infos end; next_generation = manifest.next_generation; end = end; slots = slots }
+  read_table = table_of manifest.settings (with_firsts infos end) manifest.next_generation end slots tokens
 
   manifest_is : manifest ≡ record { settings = manifest.settings; next_generation = manifest.next_generation; floor = manifest.floor; live = lives_of (with_firsts infos end) }
   manifest_is = ap (λ (l : List Live). record { settings = manifest.settings; next_generation = manifest.next_generation; floor = manifest.floor; live = l }) (sym (lives_filled infos end ∙ lives))
 
-  named : IsManifest (manifest_of (record { settings = manifest.settings; segments = with_firsts infos end; next_generation = manifest.next_generation; end = end; slots = slots }) manifest.floor)
+  named : IsManifest (manifest_of (table_of manifest.settings (with_firsts infos end) manifest.next_generation end slots tokens) manifest.floor)
   named = subst (λ (m : Manifest). IsManifest m) manifest_is good
 
-  pub table_good : IsTable (record { settings = manifest.settings; segments = with_firsts infos end; next_generation = manifest.next_generation; end = end; slots = slots })
+  pub table_good : IsTable (table_of manifest.settings (with_firsts infos end) manifest.next_generation end slots tokens)
   table_good = record {
     settings = ranges;
-    manifest = higher_floor (record { settings = manifest.settings; segments = with_firsts infos end; next_generation = manifest.next_generation; end = end; slots = slots }) manifest.floor end (omega (arith, end_is, most, good.floor)) named;
+    manifest = higher_floor (table_of manifest.settings (with_firsts infos end) manifest.next_generation end slots tokens) manifest.floor end (omega (arith, end_is, most, good.floor)) named;
     fit = fit_filled manifest.settings.segment infos end fit;
     base = base;
     sequence = sequence;
+    tokens = tokens_good;
   }
 
-  module _ (content : Content) (found : List Found) (parts : List (List Written)) (read : AreRead manifest.settings.segment content.seen infos next found parts) (value : (cell_at 0 content.seen).value ≡ Some (manifest_text manifest)) where
+  module _ (content : Content) (parts : List (List Written)) (read : AreRead manifest.settings.segment content.seen infos next parts) (value : (cell_at 0 content.seen).value ≡ Some (manifest_text manifest)) where
     its_end : end ≡ max manifest.floor (next_after 0 (joined parts))
     its_end = end_is ∙ ap (λ (n : ℕ). max manifest.floor n) read.next_is
 
-    shown : IsShown (record { settings = manifest.settings; segments = with_firsts infos end; next_generation = manifest.next_generation; end = end; slots = slots }) manifest.floor parts content.seen
+    shown : IsShown (table_of manifest.settings (with_firsts infos end) manifest.next_generation end slots tokens) manifest.floor parts content.seen
     shown = record {
       value = value ∙ ap (λ (m : Manifest). Some (manifest_text m)) manifest_is;
       fronts = fronts_filled manifest.settings.segment infos parts end content.seen read.fronts;
     }
 
-    pub read_log : IsLoaded slots content.seen → Only content → IsLog (record { settings = manifest.settings; segments = with_firsts infos end; next_generation = manifest.next_generation; end = end; slots = slots }) content (placed_in manifest.settings.segment infos parts)
-    read_log loaded only = record {
+    pub read_log : IsLoaded slots content.seen → IsLoaded tokens content.seen → Only content → IsLog (table_of manifest.settings (with_firsts infos end) manifest.next_generation end slots tokens) content (placed_in manifest.settings.segment infos parts)
+    read_log loaded tokens_loaded only = record {
       floor = manifest.floor;
       parts = parts;
       sized = sized_filled infos parts end read.sized;
@@ -61,18 +62,19 @@ module _ (manifest : Manifest) (good : IsManifest manifest) (ranges : AreInRange
       rises = read.rises;
       firsts = firsts_filled infos parts end read.sized read.known;
       ends = its_end;
-      shown = λ c image. subst (λ (l : List ℕ). IsShown (record { settings = manifest.settings; segments = with_firsts infos end; next_generation = manifest.next_generation; end = end; slots = slots }) manifest.floor parts l) (sym (only c image)) shown;
+      shown = λ c image. subst (λ (l : List ℕ). IsShown (table_of manifest.settings (with_firsts infos end) manifest.next_generation end slots tokens) manifest.floor parts l) (sym (only c image)) shown;
       loaded = loaded;
-      settled = λ c image. ap (range 0 2048) (only c image);
+      tokens = tokens_loaded;
+      settled = λ c image. ap (range 0 4096) (only c image);
     }
 
-    pub read_laid : IsLoaded slots content.seen → Only content → IsLaidOut manifest.settings content.seen (layout_of (record { settings = manifest.settings; segments = with_firsts infos end; next_generation = manifest.next_generation; end = end; slots = slots }))
-    read_laid loaded only =
-        log_layout (record { settings = manifest.settings; segments = with_firsts infos end; next_generation = manifest.next_generation; end = end; slots = slots }) content (placed_in manifest.settings.segment infos parts) table_good (read_log loaded only) content.seen content.sees
+    pub read_laid : IsLoaded slots content.seen → IsLoaded tokens content.seen → Only content → IsLaidOut manifest.settings content.seen (layout_of (table_of manifest.settings (with_firsts infos end) manifest.next_generation end slots tokens))
+    read_laid loaded tokens_loaded only =
+        log_layout (table_of manifest.settings (with_firsts infos end) manifest.next_generation end slots tokens) content (placed_in manifest.settings.segment infos parts) table_good (read_log loaded tokens_loaded only) content.seen content.sees
 
     pub read_stands : HasLog manifest.settings content.seen (records_of (placed_in manifest.settings.segment infos parts)) end
     read_stands = subst (λ (l : List Record). HasLog manifest.settings content.seen l end) (sym (records_of-placed_in manifest.settings.segment infos parts read.sized))
-        (shown_stands (record { settings = manifest.settings; segments = with_firsts infos end; next_generation = manifest.next_generation; end = end; slots = slots }) manifest.floor parts content.seen table_good (sized_filled infos parts end read.sized) read.rises its_end shown)
+        (shown_stands (table_of manifest.settings (with_firsts infos end) manifest.next_generation end slots tokens) manifest.floor parts content.seen table_good (sized_filled infos parts end read.sized) read.rises its_end shown)
 
 -- each live segment lies on the disk
 pub lives_inside : (manifest : Manifest) (size : ℕ) → IsManifest manifest → size ≡ disk_size manifest.settings → All (λ (live : Live). place_of manifest.settings.segment live.segment + manifest.settings.segment ≤ size) manifest.live

@@ -22,6 +22,7 @@ pub record IsFresh (table : LogTable) : Type 0 where
   pub end : table.end < 2 ^ 62
   pub next : table.next_generation < 2 ^ 62
   pub sequence : table.slots.sequence < 2 ^ 62
+  pub tokens : table.tokens.sequence < 2 ^ 62
 
 or_false : (a b : Bool) → (a || b) ≡ false → (a ≡ false) × (b ≡ false)
 or_false true b is = absurd (cc is)
@@ -35,9 +36,15 @@ le_true m n is = grind (arith, nat_tests)
 
 pub fresh_from : (table : LogTable) → is_worn table ≡ false → IsFresh table
 fresh_from table is =
-    let both = or_false (nat_le (2 ^ 62) table.end || nat_le (2 ^ 62) table.next_generation) (nat_le (2 ^ 62) table.slots.sequence) is in
+    let last = or_false (nat_le (2 ^ 62) table.end || nat_le (2 ^ 62) table.next_generation || nat_le (2 ^ 62) table.slots.sequence) (nat_le (2 ^ 62) table.tokens.sequence) is in
+    let both = or_false (nat_le (2 ^ 62) table.end || nat_le (2 ^ 62) table.next_generation) (nat_le (2 ^ 62) table.slots.sequence) last.0 in
     let first = or_false (nat_le (2 ^ 62) table.end) (nat_le (2 ^ 62) table.next_generation) both.0 in
-    record { end = not_le (2 ^ 62) table.end first.0; next = not_le (2 ^ 62) table.next_generation first.1; sequence = not_le (2 ^ 62) table.slots.sequence both.1 }
+    record {
+      end = not_le (2 ^ 62) table.end first.0;
+      next = not_le (2 ^ 62) table.next_generation first.1;
+      sequence = not_le (2 ^ 62) table.slots.sequence both.1;
+      tokens = not_le (2 ^ 62) table.tokens.sequence last.1;
+    }
 
 pub room_from : (table : LogTable) → is_packed table ≡ false → length table.segments + 1 < table.settings.segments
 room_from table is = not_le table.settings.segments (length table.segments + 1) is

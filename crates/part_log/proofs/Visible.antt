@@ -1,33 +1,32 @@
 -- A record of the log, at its place.
-use Rattle.std.proofs.Common.{◌≡◌, ◌⊎◌, inl, inr, ⊎_elim, ℕ, ◌+◌, ◌-◌, ◌≤◌, List, [], ◌∷◌, ◌++◌, length, take, suc, refl, sym, ◌∙◌, ap, subst, arith, length-append, All}
+use Rattle.std.proofs.Common.{◌≡◌, ◌⊎◌, inl, inr, ⊎_elim, ℕ, ◌+◌, ◌≤◌, List, [], ◌∷◌, ◌++◌, length, take, suc, refl, sym, ◌∙◌, ap, subst, arith, length-append, All}
 use Rattle.std.proofs.lemmas.List.{take_at, drop_at, drop-drop}
 use Rattle.disk_core.specs.Content.{Content, ChangesBy, Same, range}
-use Rattle.disk_core.proofs.Ranges.{range-range, range-split}
+use Rattle.disk_core.proofs.Ranges.{range-range}
 use Rattle.disk_core.proofs.Changes.{same_image}
 use Rattle.gate_slots.specs.Slots.{IsLoaded}
 use Rattle.log_manifest.specs.declared.manifest.Manifest.{Manifest}
 use Rattle.log_manifest.specs.Manifests.{IsLive}
-use Rattle.msg_format.specs.declared.record.Record.{Record}
-use Rattle.msg_format.specs.Records.{BeginsWith, Spells}
+use Rattle.msg_format.specs.Records.{Spells}
 use Rattle.part_log.specs.declared.segment.SegmentInfo.{SegmentInfo}
 use Rattle.part_log.specs.Records.{Written, laid, AreWritten, Placed, placed_from, IsPlaced}
 use Rattle.part_log.specs.Segments.{place_of, lives_of}
 use Rattle.part_log.specs.Log.{LogTable, IsTable, IsLog, AllFit, AllSized, AllFront, placed_in, IsVisible}
 
-placed_either : (p : Placed) (xs ys : List Placed) → IsPlaced p (xs ++ ys) → IsPlaced p xs ⊎ IsPlaced p ys
+pub placed_either : (p : Placed) (xs ys : List Placed) → IsPlaced p (xs ++ ys) → IsPlaced p xs ⊎ IsPlaced p ys
 placed_either p [] ys there = inr there
 placed_either p (x ∷ xs) ys (inl same) = inl (inl same)
 placed_either p (x ∷ xs) ys (inr there) = ⊎_elim (λ (front : IsPlaced p xs). inl (inr front)) (λ (back : IsPlaced p ys). inr back) (placed_either p xs ys there)
 
 -- a record among those of one segment
-record StandsIn (place : ℕ) (bytes : List ℕ) (p : Placed) : Type 0 where
-  offset : ℕ
-  at : p.place ≡ place + offset
-  fits : offset + length p.text ≤ length bytes
-  here : range offset (length p.text) bytes ≡ p.text
-  spelled : Spells p.text p.entry
+pub record StandsIn (place : ℕ) (bytes : List ℕ) (p : Placed) : Type 0 where
+  pub offset : ℕ
+  pub at : p.place ≡ place + offset
+  pub fits : offset + length p.text ≤ length bytes
+  pub here : range offset (length p.text) bytes ≡ p.text
+  pub spelled : Spells p.text p.entry
 
-in_part : (place : ℕ) (part : List Written) (p : Placed) → AreWritten part → IsPlaced p (placed_from place part) → StandsIn place (laid part) p
+pub in_part : (place : ℕ) (part : List Written) (p : Placed) → AreWritten part → IsPlaced p (placed_from place part) → StandsIn place (laid part) p
 in_part place [] p good there = absurd there
 in_part place (w ∷ part) p good (inl same) =
     let text_is : p.text ≡ w.text = ap (λ (q : Placed). q.text) same in
@@ -85,17 +84,6 @@ in_segments manifest (info ∷ infos) (part ∷ parts) c p each fit sized fronts
 pub visible : (table : LogTable) (content : Content) (placed : List Placed) (p : Placed) → IsTable table → IsLog table content placed → IsPlaced p placed → IsVisible table.settings content.seen p
 visible table content placed p good log there = in_segments _ table.segments log.parts content.seen p good.manifest.each good.fit log.sized (here_from table.settings.segment table.segments log.parts content.seen (log.shown content.seen content.sees).fronts) (subst (λ (l : List Placed). IsPlaced p l) log.all there)
 
--- the bytes from there on begin with it
-pub begins_there : (place left : ℕ) (bytes : List ℕ) (entry : Record) (text : List ℕ) → length text ≤ left → range place (length text) bytes ≡ text → Spells text entry → BeginsWith (range place left bytes) entry
-begins_there place left bytes entry text fits here spelled =
-    let n : ℕ = length text in
-    record {
-      text = text;
-      spelled = spelled;
-      rest = range (place + n) (left - n) bytes;
-      parts = ap (λ (k : ℕ). range place k bytes) (let e : left ≡ n + (left - n) = omega (arith, fits) in e) ∙ range-split place n (left - n) bytes ∙ ap (λ (l : List ℕ). l ++ range (place + n) (left - n) bytes) here;
-    }
-
 -- a call that changes nothing leaves a log
 pub log_same : (table : LogTable) (old new : Content) (placed : List Placed) → ChangesBy Same old new → new.seen ≡ old.seen → IsLog table old placed → IsLog table new placed
 log_same table old new placed changes seen log = record {
@@ -108,5 +96,6 @@ log_same table old new placed changes seen log = record {
   ends = log.ends;
   shown = λ c image. log.shown c (same_image old new changes c image);
   loaded = subst (λ (l : List ℕ). IsLoaded table.slots l) (sym seen) log.loaded;
-  settled = λ c image. log.settled c (same_image old new changes c image) ∙ ap (range 0 2048) (sym seen);
+  tokens = subst (λ (l : List ℕ). IsLoaded table.tokens l) (sym seen) log.tokens;
+  settled = λ c image. log.settled c (same_image old new changes c image) ∙ ap (range 0 4096) (sym seen);
 }

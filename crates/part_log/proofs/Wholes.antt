@@ -1,13 +1,11 @@
--- A record's bytes, read in two parts.
-use Rattle.std.proofs.Common.{◌≡◌, ℕ, ◌+◌, ◌-◌, ◌≤◌, List, ◌++◌, length, take, drop, replicate, Option, Some, None, refl, sym, ◌∙◌, ap, subst, arith, length-append, take-append-drop}
-use Rattle.std.proofs.lemmas.List.{length-replicate, take_at, take-take}
+-- The bytes of a record, as they are read.
+use Rattle.std.proofs.Common.{◌≡◌, ℕ, ◌+◌, ◌-◌, ◌≤◌, List, [], ◌++◌, length, take, drop, Option, Some, None, refl, sym, ◌∙◌, ap, subst, arith, append-nil, take-append-drop}
+use Rattle.std.proofs.lemmas.List.{take_all, take_at}
 use Rattle.disk_core.specs.Content.{range}
-use Rattle.disk_core.proofs.Ranges.{range-split, length-range}
+use Rattle.disk_core.proofs.Ranges.{range-split}
 use Rattle.msg_format.specs.declared.record.Record.{Record}
-use Rattle.msg_format.specs.declared.record.Head.{Head}
-use Rattle.msg_format.specs.Records.{BeginsWith, head_of}
+use Rattle.msg_format.specs.Records.{BeginsWith, Spells}
 use Rattle.part_log.specs.Scan.{IsHeld}
-use Rattle.part_log.proofs.Visible.{begins_there}
 
 -- what is there, or this where nothing is
 there_or : {A : Type 0} → A → Option A → A
@@ -31,46 +29,12 @@ both_parts place count front bytes seen within held first rest =
     ∙ sym (range-split place n (count - n) seen)
     ∙ ap (λ (k : ℕ). range place k seen) (let e : n + (count - n) ≡ count = omega (arith, within) in e)
 
--- A record that begins there stands in so many bytes that it fits.
-pub begins_short : (place left n : ℕ) (seen : List ℕ) (entry : Record) → n ≤ left → (begins : BeginsWith (range place left seen) entry) → length begins.text ≤ n → BeginsWith (range place n seen) entry
-begins_short place left n seen entry within begins fits =
-    let m : ℕ = length begins.text in
-    let here : range place m seen ≡ begins.text =
-    sym (take-take m left (drop place seen) (omega (arith, within, fits)))
-    ∙ ap (λ (l : List ℕ). take m l) begins.parts
-    ∙ take_at begins.text begins.rest m refl in
-    begins_there place n seen entry begins.text fits here begins.spelled
+-- A record whose text is all of the bytes is what they spell.
+pub whole_spells : (bytes : List ℕ) (entry : Record) (begins : BeginsWith bytes entry) → length begins.text ≡ length bytes → Spells bytes entry
+whole_spells bytes entry begins all =
+    let n : ℕ = length begins.text in
+    let text_is : begins.text ≡ bytes = sym (take_at begins.text begins.rest n refl) ∙ ap (λ (l : List ℕ). take n l) (sym begins.parts) ∙ take_all n bytes (omega (arith, all)) in
+    subst (λ (l : List ℕ). Spells l entry) text_is begins.spelled
 
--- a record that begins in bytes is no longer than they are
-pub size_inside : (bytes : List ℕ) (entry : Record) (head : Head) (left : ℕ) → length bytes ≡ left → (begins : BeginsWith bytes entry) → head ≡ head_of entry begins.text → head.len ≤ left
-size_inside bytes entry head left long begins is =
-    omega (arith, long, ap (λ (h : Head). h.len) is, ap (λ (l : List ℕ). length l) begins.parts, length-append begins.text begins.rest)
-
--- the bytes behind a front
-pub behind_front : (place need left : ℕ) (seen front : List ℕ) → need ≤ left → place + left ≤ length seen → front ≡ range place need seen
-    → (front ++ range (place + need) (left - need) seen ≡ range place left seen) × (length front + length (range (place + need) (left - need) seen) ≡ left)
-behind_front place need left seen front within inside is = (
-  ap (λ (l : List ℕ). l ++ range (place + need) (left - need) seen) is ∙ sym (range-split place need (left - need) seen) ∙ ap (λ (n : ℕ). range place n seen) (let e : need + (left - need) ≡ left = omega (arith, within) in e),
-  omega (arith, ap (λ (l : List ℕ). length l) is, length-range place need seen (omega (arith, within, inside)), length-range (place + need) (left - need) seen (omega (arith, within, inside)), within),
-)
-
--- a head in front of bytes, of which only these are at hand, is that of a record within all of them
-pub head_inside : (left : ℕ) (front : List ℕ) (head : Head) → length front ≤ left → ((more : List ℕ) → length front + length more ≡ left → (entry : Record) × (begins : BeginsWith (front ++ more) entry) × (head ≡ head_of entry begins.text)) → head.len ≤ left
-head_inside left front head within found =
-    let more : List ℕ = replicate (left - length front) 0 in
-    let rest : length more ≡ left - length front = length-replicate (left - length front) 0 in
-    let whole : length front + length more ≡ left = omega (arith, rest, within) in
-    let one = found more whole in
-    size_inside (front ++ more) one.0 head left (length-append front more ∙ whole) one.1 one.2
-
--- of a front that has the head of a record, the head is found
-module _ (place need left : ℕ) (seen front : List ℕ) (answer : Option Head) (within : need ≤ left) (inside : place + left ≤ length seen) (is : front ≡ range place need seen)
-    (finds : (more : List ℕ) (entry : Record) → length front + length more ≡ left → (begins : BeginsWith (front ++ more) entry) → answer ≡ Some (head_of entry begins.text)) where
-  pub head_found : (entry : Record) → (begins : BeginsWith (range place left seen) entry) → answer ≡ Some (head_of entry begins.text)
-  head_found entry begins =
-      let both = behind_front place need left seen front within inside is in
-      let more : List ℕ = range (place + need) (left - need) seen in
-      finds more entry both.1 (record { text = begins.text; spelled = begins.spelled; rest = begins.rest; parts = both.0 ∙ begins.parts })
-
-  pub size_found : (entry : Record) (head : Head) → answer ≡ Some head → (begins : BeginsWith (range place left seen) entry) → head.len ≡ length begins.text
-  size_found entry head some begins = ap (λ (h : Head). h.len) (same_some head (head_of entry begins.text) (sym some ∙ head_found entry begins))
+abbrev pub begins_whole : (bytes : List ℕ) (entry : Record) → Spells bytes entry → BeginsWith bytes entry
+begins_whole bytes entry spelled = record { text = bytes; spelled = spelled; rest = []; parts = sym (append-nil bytes) }

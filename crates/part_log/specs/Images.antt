@@ -62,10 +62,11 @@ pub record HasLayout (settings : LogSettings) (bytes : List ℕ) (layout : Layou
   pub used : layout.used ≡ last_size log.parts
   pub next_generation : layout.next_generation ≡ log.manifest.next_generation
   pub sequence : layout.sequence ≡ (cell_at 0 bytes).sequence
+  pub tokens : layout.tokens ≡ (cell_at 2048 bytes).sequence
 
 -- A disk without a manifest is new, and has the layout that an opening gives it.
 abbrev pub IsLaidOut : LogSettings → List ℕ → Layout → Type 0
-IsLaidOut settings bytes layout = HasLayout settings bytes layout ⊎ (((cell_at 0 bytes).value ≡ None) × (layout ≡ first_layout))
+IsLaidOut settings bytes layout = HasLayout settings bytes layout ⊎ (((cell_at 0 bytes).value ≡ None) × (layout ≡ first_layout (cell_at 2048 bytes).sequence))
 
 -- The manifest names other settings.
 pub record NamesOther (settings other : LogSettings) (bytes : List ℕ) : Type 0 where

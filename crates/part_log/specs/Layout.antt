@@ -4,22 +4,23 @@ use Rattle.log_manifest.specs.declared.manifest.LogSettings.{LogSettings}
 use Rattle.msg_format.specs.declared.record.Record.{Record}
 use Rattle.msg_format.specs.Records.{record_size}
 
--- How many segments are in use, how many bytes of the last one hold records, and the three numbers that only rise: the end lsn, the next
--- generation, and the sequence of the manifest's cell.
+-- How many segments are in use, how many bytes of the last one hold records, and the four numbers that only rise: the end lsn, the next
+-- generation, and the sequences of the manifest's cell and of the token cell.
 pub record Layout : Type 0 where
   pub in_use : ℕ
   pub used : ℕ
   pub end : ℕ
   pub next_generation : ℕ
   pub sequence : ℕ
+  pub tokens : ℕ
 
--- that of a new log
-abbrev pub first_layout : Layout
-first_layout = record { in_use = 1; used = 0; end = 0; next_generation = 1; sequence = 1 }
+-- that of a new log on a disk whose token cell has this sequence
+abbrev pub first_layout : ℕ → Layout
+first_layout tokens = record { in_use = 1; used = 0; end = 0; next_generation = 1; sequence = 1; tokens = tokens }
 
 -- worn: a number that only rises is too near to its end
 abbrev pub is_worn_out : Layout → Bool
-is_worn_out layout = nat_le (2 ^ 62) layout.end || nat_le (2 ^ 62) layout.next_generation || nat_le (2 ^ 62) layout.sequence
+is_worn_out layout = nat_le (2 ^ 62) layout.end || nat_le (2 ^ 62) layout.next_generation || nat_le (2 ^ 62) layout.sequence || nat_le (2 ^ 62) layout.tokens
 
 -- a record of so many bytes fits into the last segment, with a closed gate behind it
 abbrev pub fits_behind : LogSettings → Layout → ℕ → Bool

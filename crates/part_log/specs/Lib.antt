@@ -4,4 +4,6 @@ pub mod Layout
 pub mod Images
 pub mod Log
 pub mod Scan
+pub mod Marks
 pub mod Opened
+pub mod Pages

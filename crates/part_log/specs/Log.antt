@@ -28,13 +28,15 @@ pub record AreInRange (settings : LogSettings) : Type 0 where
 abbrev pub disk_size : LogSettings → ℕ
 disk_size settings = place_of settings.segment settings.segments
 
--- What is kept in memory of a log: its live segments in log order, the next generation and the next lsn, and the current slot of its manifest's cell.
+-- What is kept in memory of a log: its live segments in log order, the next generation and the next lsn, and the current slots of its manifest's
+-- cell and of the token cell.
 pub record LogTable : Type 0 where
   pub settings : LogSettings
   pub segments : List SegmentInfo
   pub next_generation : ℕ
   pub end : ℕ
   pub slots : CurrentSlot
+  pub tokens : CurrentSlot
 
 -- What callers see of a log. Once its disk failed it is down.
 pub record LogState (D : Type 0) : Type 0 where
@@ -51,6 +53,11 @@ abbrev pub AllFit : ℕ → List SegmentInfo → Type 0
 AllFit segment [] = Unit {0}
 AllFit segment (info ∷ infos) = (info.used ≤ segment) × AllFit segment infos
 
+-- A slot of the token cell, which stands behind the manifest's.
+pub record IsTokenSlot (tokens : CurrentSlot) : Type 0 where
+  pub base : tokens.base ≡ 2048
+  pub below : tokens.sequence < 2 ^ 63
+
 -- What holds of the table, whatever the disk tells.
 pub record IsTable (table : LogTable) : Type 0 where
   pub settings : AreInRange table.settings
@@ -58,6 +65,7 @@ pub record IsTable (table : LogTable) : Type 0 where
   pub fit : AllFit table.settings.segment table.segments
   pub base : table.slots.base ≡ 0
   pub sequence : table.slots.sequence < 2 ^ 63
+  pub tokens : IsTokenSlot table.tokens
 
 -- These records stand in front of the segment, and a closed gate behind them.
 pub record IsFront (segment : ℕ) (info : SegmentInfo) (part : List Written) (bytes : List ℕ) : Type 0 where
@@ -94,7 +102,7 @@ pub record IsShown (table : LogTable) (floor : ℕ) (parts : List (List Written)
   pub value : (cell_at 0 bytes).value ≡ Some (manifest_text (manifest_of table floor))
   pub fronts : AllFront table.settings.segment table.segments parts bytes
 
--- Whatever a crash leaves of this content, it has these records, and the log can go on from its table.
+-- Whatever a crash leaves of this content, it has these records and both cells as they are, and the log can go on from its table.
 pub record IsLog (table : LogTable) (content : Content) (placed : List Placed) : Type 0 where
   pub floor : ℕ
   pub parts : List (List Written)
@@ -105,11 +113,12 @@ pub record IsLog (table : LogTable) (content : Content) (placed : List Placed) :
   pub ends : table.end ≡ max floor (next_after 0 (joined parts))
   pub shown : (c : List ℕ) → content.images c → IsShown table floor parts c
   pub loaded : IsLoaded table.slots content.seen
-  pub settled : IsSettled 0 2048 content
+  pub tokens : IsLoaded table.tokens content.seen
+  pub settled : IsSettled 0 4096 content
 
 -- the room that its records take
 abbrev pub layout_of : LogTable → Layout
-layout_of table = record { in_use = length table.segments; used = last_used table.segments; end = table.end; next_generation = table.next_generation; sequence = table.slots.sequence }
+layout_of table = record { in_use = length table.segments; used = last_used table.segments; end = table.end; next_generation = table.next_generation; sequence = table.slots.sequence; tokens = table.tokens.sequence }
 
 -- worn: a number that only rises is too near to its end
 abbrev pub is_worn : LogTable → Bool
@@ -179,8 +188,8 @@ abbrev pub next_place : LogTable → ℕ
 next_place table = place_of table.settings.segment (last_segment table.segments) + last_used table.segments
 
 -- the table of a new log
-abbrev pub first_table : LogSettings → CurrentSlot → LogTable
-first_table settings slots = record { settings = settings; segments = record { segment = 0; generation = 0; used = 0; first = 0 } ∷ []; next_generation = 1; end = 0; slots = slots }
+abbrev pub first_table : LogSettings → CurrentSlot → CurrentSlot → LogTable
+first_table settings slots tokens = record { settings = settings; segments = record { segment = 0; generation = 0; used = 0; first = 0 } ∷ []; next_generation = 1; end = 0; slots = slots; tokens = tokens }
 
 -- A record that can be read: it stands whole in one of the segments.
 pub record IsVisible (settings : LogSettings) (bytes : List ℕ) (p : Placed) : Type 0 where
@@ -196,9 +205,9 @@ pub record IsVisible (settings : LogSettings) (bytes : List ℕ) (p : Placed) : 
 abbrev pub AllVisible : LogSettings → List ℕ → List Placed → Type 0
 AllVisible settings bytes placed = (p : Placed) → IsPlaced p placed → IsVisible settings bytes p
 
--- One of the log's records stands at this place.
-pub record HasRecordAt (table : LogTable) (content : Content) (place : ℕ) : Type 0 where
+-- One of the log's records stands at this place, and its text has this length.
+pub record HasRecordAt (table : LogTable) (content : Content) (place len : ℕ) : Type 0 where
   pub placed : List Placed
   pub log : IsLog table content placed
   pub entry : Record
-  pub there : HasPlace entry place placed
+  pub there : HasPlace entry place len placed

@@ -9,6 +9,10 @@ pub record Written : Type 0 where
   pub entry : Record
   pub text : List ℕ
 
+-- a text of this length spells the record
+abbrev pub IsSpelledIn : ℕ → Record → Type 0
+IsSpelledIn len entry = (text : List ℕ) × (length text ≡ len) × Spells text entry
+
 -- a record as it is written
 abbrev pub written_of : Record → Written
 written_of entry = record { entry = entry; text = spelling_of entry }
@@ -78,6 +82,6 @@ abbrev pub IsPlaced : Placed → List Placed → Type 0
 IsPlaced p [] = ⊥
 IsPlaced p (q ∷ placed) = (p ≡ q) ⊎ IsPlaced p placed
 
--- one of these stands at this place and has this record, whatever text spells it
-abbrev pub HasPlace : Record → ℕ → List Placed → Type 0
-HasPlace entry place placed = (text : List ℕ) × IsPlaced (record { entry = entry; text = text; place = place }) placed
+-- one of these stands at this place and has this record, whatever text of this length spells it
+abbrev pub HasPlace : Record → ℕ → ℕ → List Placed → Type 0
+HasPlace entry place len placed = (text : List ℕ) × (length text ≡ len) × IsPlaced (record { entry = entry; text = text; place = place }) placed

@@ -1,15 +1,16 @@
 -- What is found while a segment is read.
-use Rattle.std.specs.Prelude.{◌≡◌, ℕ, ◌+◌, ◌≤◌, List, [], ◌∷◌, ◌++◌, length}
+use Rattle.std.specs.Prelude.{◌≡◌, ℕ, ◌+◌, ◌≤◌, ◌==◌, List, [], ◌∷◌, ◌++◌, length, if◌then◌else◌}
 use Rattle.disk_core.specs.Content.{range}
 use Rattle.msg_format.specs.declared.record.Record.{Record}
 use Rattle.msg_format.specs.Records.{BeginsWith, head_of, lsn_of}
 use Rattle.part_log.specs.declared.piece.Beginning.{Beginning}
 use Rattle.part_log.specs.declared.piece.Beginning.TheVariants.{Closed, Entry, Broken}
+use Rattle.part_log.specs.declared.scan.Extent.{Extent}
 use Rattle.part_log.specs.declared.segment.Found.{Found}
 use Rattle.part_log.specs.declared.segment.SegmentInfo.{SegmentInfo}
 use Rattle.part_log.specs.Images.{joined}
-use Rattle.part_log.specs.Log.{AllSized, AllFront, placed_in}
-use Rattle.part_log.specs.Records.{Written, laid, AreWritten, EndsHere, RisesFrom, next_after, first_lsn, placed_from, Placed}
+use Rattle.part_log.specs.Log.{AllSized, AllFront}
+use Rattle.part_log.specs.Records.{Written, laid, AreWritten, EndsHere, RisesFrom, next_after, first_lsn, Placed}
 
 -- these bytes stand at this place
 abbrev pub IsHeld : ℕ → List ℕ → List ℕ → Type 0
@@ -26,28 +27,36 @@ abbrev pub found_of : List Placed → List Found
 found_of [] = []
 found_of (p ∷ placed) = record { place = p.place; head = head_of p.entry p.text } ∷ found_of placed
 
+-- Taking these records one after the other can make the second collector of the first.
+abbrev pub TakesAll : {C : Type 0} → (C → Found → C → Type 0) → C → List Found → C → Type 0
+TakesAll takes old [] new = new ≡ old
+TakesAll {C} takes old (one ∷ found) new = (between : C) × takes old one between × TakesAll takes between found new
+
 -- A record was read at a place: the one that begins there, whose lsn rises.
-pub record ReadsOn (bytes : List ℕ) (place low : ℕ) (found : List Found) (size next : ℕ) (more : List Found) : Type 0 where
+pub record ReadsOn (bytes : List ℕ) (place low : ℕ) (one : Found) (next : ℕ) : Type 0 where
   pub entry : Record
   pub begins : BeginsWith bytes entry
-  pub size_is : size ≡ length begins.text
   pub rises : low ≤ lsn_of entry
   pub next_is : next ≡ lsn_of entry + 1
-  pub found_is : more ≡ found ++ record { place = place; head = head_of entry begins.text } ∷ []
+  pub one_is : one ≡ record { place = place; head = head_of entry begins.text }
 
 -- an open gate with no record behind it, or with one whose lsn doesn't rise
 pub record IsBroken (low : ℕ) (bytes : List ℕ) : Type 0 where
   pub goes_on : EndsHere bytes → ⊥
   pub none : (entry : Record) → BeginsWith bytes entry → low ≤ lsn_of entry → ⊥
 
--- So many bytes in front of a segment hold records, which were found behind those from before.
-pub record IsRead (start low : ℕ) (before : List Found) (seen : List ℕ) (used next : ℕ) (found : List Found) (written : List Written) : Type 0 where
+-- how far the records of a segment reach with this one behind them
+abbrev pub with_found : Extent → Found → Extent
+with_found extent one = record { used = extent.used + one.head.len; first = if extent.used == 0 then one.head.lsn else extent.first }
+
+-- These records stand in front of a segment, and reach so far.
+pub record IsRead (start low : ℕ) (seen : List ℕ) (extent : Extent) (next : ℕ) (written : List Written) : Type 0 where
   pub good : AreWritten written
   pub rises : RisesFrom low written
-  pub size : length (laid written) ≡ used
-  pub front : range start used seen ≡ laid written
+  pub size : length (laid written) ≡ extent.used
+  pub front : range start extent.used seen ≡ laid written
+  pub first_is : extent.first ≡ first_lsn written 0
   pub next_is : next ≡ next_after low written
-  pub found_is : found ≡ before ++ found_of (placed_from start written)
 
 -- the first lsn of each segment that has records
 abbrev pub AllKnown : List SegmentInfo → List (List Written) → Type 0
@@ -55,11 +64,10 @@ AllKnown [] parts = Unit {0}
 AllKnown (info ∷ infos) [] = ⊥
 AllKnown (info ∷ infos) (part ∷ parts) = (1 ≤ info.used → info.first ≡ first_lsn part 0) × AllKnown infos parts
 
--- The records of these segments were found, and no other ones.
-pub record AreRead (segment : ℕ) (seen : List ℕ) (infos : List SegmentInfo) (next : ℕ) (found : List Found) (parts : List (List Written)) : Type 0 where
+-- These segments have these records, and no other ones.
+pub record AreRead (segment : ℕ) (seen : List ℕ) (infos : List SegmentInfo) (next : ℕ) (parts : List (List Written)) : Type 0 where
   pub sized : AllSized infos parts
   pub known : AllKnown infos parts
   pub fronts : AllFront segment infos parts seen
   pub rises : RisesFrom 0 (joined parts)
   pub next_is : next ≡ next_after 0 (joined parts)
-  pub found_is : found ≡ found_of (placed_in segment infos parts)

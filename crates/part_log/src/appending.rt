@@ -3,6 +3,7 @@
 ghost use Rattle.std.specs.Prelude.{if◌then◌else◌, ◌≡◌, ◌⊎◌, ◌+◌, ◌^◌, ◌<◌, ◌≤◌, ◌↔◌, ◌++◌, ◌∷◌, [], List, ℕ, length, true, false, OnOk, OnErr, IfOk, IsErrOf};
 ghost use Rattle.outside.specs.Causes.{Rose};
 ghost use Rattle.disk_core.specs.Content.{ChangesBy};
+ghost use Rattle.gate_slots.specs.Gate.{IsZeroed};
 ghost use Rattle.msg_format.specs.declared.record.Record.{Record};
 ghost use Rattle.msg_format.specs.Records.{IsRecord, lsn_of, record_size};
 ghost use Rattle.part_log.specs.Records.{Placed, placed_at, records_of};
@@ -33,7 +34,8 @@ fn grow_last(segments: &mut Vec<SegmentInfo>, size: u32)
 }
 
 impl<D: Disk> PartLog<D> {
-    /// Makes room in the last live segment for a record of so many bytes: by a roll, where it doesn't fit.
+    /// Makes room for a record of so many bytes: in memory for its mark, and in the last live segment by a roll, where it
+    /// doesn't fit.
     fn make_room(&mut self, alloc: Global, size: u64) -> Result<(), LogFault>
         requires up { self.old.down ≡ false }
         requires small { size < 2 ^ 32 }
@@ -54,6 +56,7 @@ impl<D: Disk> PartLog<D> {
         ensures size { D.size self.new.disk ≡ D.size self.old.disk }
         ensures later { D.faults self.old.disk ≤ D.faults self.new.disk }
     {
+        self.marks.reserve()?;
         if self.fits(size) {
             Ok(())
         } else {
@@ -75,6 +78,7 @@ impl<D: Disk> PartLog<D> {
         ensures outside { D.tells → ChangesIn self.old.table.settings.segment (last_segment self.old.table.segments) (D.content self.old.disk).seen (D.content self.new.disk).seen }
         ensures visible { D.tells → (placed : List Placed) → IsLog self.old.table (D.content self.old.disk) placed → AllVisible self.old.table.settings (D.content self.new.disk).seen placed }
         ensures good { OnOk result (IsTable self.new.table) }
+        ensures zero { IfOk result (λ place. D.tells → IsZeroed (place + record_size entry.now) (D.content self.new.disk)) }
         ensures place { IfOk result (λ place. place ≡ next_place self.old.table) }
         ensures table { OnOk result (self.new.table ≡ grown self.old.table (record_size entry.now)) }
         ensures layout { OnOk result (layout_of self.new.table ≡ with_size (layout_of self.old.table) (record_size entry.now)) }
@@ -89,6 +93,8 @@ impl<D: Disk> PartLog<D> {
         match write_gated(&mut self.disk, place, rest) {
             Ok(()) => {
                 grow_last(&mut self.segments, record_size(entry) as u32);
+                // There is room for the mark. Without it a page would only read more.
+                let _ = self.marks.note(self.end, place);
                 self.end += 1;
                 Ok(place)
             }
@@ -115,6 +121,8 @@ impl<D: Disk> PartLog<D> {
         // Also after a failure each record from before can be read.
         ensures visible { D.tells → (placed : List Placed) → IsLog self.old.table (D.content self.old.disk) placed → AllVisible self.old.table.settings (D.content self.new.disk).seen placed }
         ensures good { OnOk result (IsTable self.new.table) }
+        // The gate behind the record is closed by a 0.
+        ensures zero { IfOk result (λ place. D.tells → IsZeroed (place + record_size entry.now) (D.content self.new.disk)) }
         ensures place { IfOk result (λ place. place ≡ next_place (roomy_table self.old.table (record_size entry.now) self.new.table.slots)) }
         ensures table { OnOk result (self.new.table ≡ grown (roomy_table self.old.table (record_size entry.now) self.new.table.slots) (record_size entry.now)) }
         ensures layout { OnOk result (layout_of self.new.table ≡ packed_with self.old.table.settings (layout_of self.old.table) (record_size entry.now)) }

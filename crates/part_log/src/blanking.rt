@@ -3,7 +3,7 @@
 ghost use Rattle.std.specs.Prelude.{◌≡◌, ◌⊎◌, ◌<◌, ◌≤◌, ◌↔◌, List, true, false, OnOk, OnErr, IsErrOf};
 ghost use Rattle.outside.specs.Causes.{Rose};
 ghost use Rattle.disk_core.specs.Content.{ChangesBy, Only, Torn};
-ghost use Rattle.gate_slots.specs.Gate.{IsShut};
+ghost use Rattle.gate_slots.specs.Gate.{IsShut, IsZeroed};
 ghost use Rattle.part_log.specs.Records.{Placed, records_of};
 ghost use Rattle.part_log.specs.Segments.{is_among, place_of};
 ghost use Rattle.part_log.specs.Images.{KeepsLog};
@@ -16,7 +16,7 @@ use disk_core::{Disk, write_synced};
 use outside::Failed;
 
 impl<D: Disk> PartLog<D> {
-    /// Closes the first gate of a free segment, and syncs, so that no record stands in front of that segment whatever a
+    /// Closes the first gate of a free segment by a 0, and syncs, so that no record stands in front of that segment whatever a
     /// crash leaves. The gate is written whatever stands there: of a free segment no byte counts. It makes two calls of the
     /// disk and takes no memory; the table stays. After `Failed` the log is down.
     pub fn blank(&mut self, segment: u16) -> Result<(), LogFault>
@@ -30,6 +30,7 @@ impl<D: Disk> PartLog<D> {
         ensures gate { D.tells → ChangesBy (Torn (place_of self.old.table.settings.segment segment) 1) (D.content self.old.disk) (D.content self.new.disk) }
         ensures outside { D.tells → Torn (place_of self.old.table.settings.segment segment) 1 (D.content self.old.disk).seen (D.content self.new.disk).seen }
         ensures closed { OnOk result (D.tells → IsShut (place_of self.old.table.settings.segment segment) (D.content self.new.disk)) }
+        ensures zero { OnOk result (D.tells → IsZeroed (place_of self.old.table.settings.segment segment) (D.content self.new.disk)) }
         ensures only { OnOk result (D.tells → Only (D.content self.new.disk)) }
 
         // Also after a failure the disk has the records that were there.

@@ -1,6 +1,6 @@
 //! Why a log answers otherwise than it was asked to.
 
-ghost use Rattle.std.specs.Prelude.{◌≡◌, ◌⊎◌};
+ghost use Rattle.std.specs.Prelude.{◌≡◌, ◌≢◌, ◌⊎◌};
 ghost use Rattle.gate_slots.specs.declared.fault.SlotFault.TheVariants.{Failed as SlotFailed, TooLong, Memory as SlotMemory};
 ghost use Rattle.part_log.specs.declared.fault.ReadFault.TheVariants.{Failed as ReadFailed, Memory as ReadMemory};
 ghost use Rattle.part_log.specs.declared.fault.LogFault.TheVariants.{Failed as LogFailed, Memory as LogMemory};
@@ -108,6 +108,20 @@ impl From<ReadFault> for OpenFault {
         match fault {
             ReadFault::Failed => OpenFault::Failed,
             ReadFault::Memory => OpenFault::Memory,
+        }
+    }
+}
+
+/// A log that no longer reads as it did is a failure of the disk.
+impl From<OpenFault> for ReadFault {
+    ghost from_gives = { λ fault given. ((fault ≢ OpenMemory) × (given ≡ ReadFailed)) ⊎ ((fault ≡ OpenMemory) × (given ≡ ReadMemory)) };
+
+    fn from(fault: OpenFault) -> Self {
+        match fault {
+            OpenFault::Failed | OpenFault::Damaged(_) | OpenFault::OtherShape(_) => {
+                ReadFault::Failed
+            }
+            OpenFault::Memory => ReadFault::Memory,
         }
     }
 }

@@ -5,6 +5,7 @@ ghost use Rattle.part_log.specs.Records.{Placed};
 ghost use Rattle.part_log.specs.Images.{IsLaidOut};
 ghost use Rattle.part_log.specs.Log.{IsLog, IsTable, disk_size, fits_last, is_full, is_packed, is_worn, layout_of, takes_no_segment};
 
+use crate::marks::Marks;
 use crate::segment::SegmentInfo;
 use crate::table::last_used;
 use disk_core::Disk;
@@ -22,11 +23,15 @@ pub struct PartLog<D: Disk> {
     pub(crate) settings: LogSettings,
     /// What is kept of the manifest's cell.
     pub(crate) slots: Slots,
+    /// What is kept of the token cell.
+    pub(crate) tokens: Slots,
     /// The live segments, in log order. The last one is the one that records are put into.
     pub(crate) segments: Vec<SegmentInfo>,
     pub(crate) next_generation: u64,
     /// The lsn of the next record.
     pub(crate) end: u64,
+    /// Where some of its records stand.
+    pub(crate) marks: Marks,
     /// Whether the disk failed since the opening.
     pub(crate) down: bool,
 }
@@ -35,28 +40,32 @@ impl<D: Disk> Model for PartLog<D> {
     ghost use Rattle.std.specs.Prelude.{◌≡◌, List, false};
     ghost use Rattle.part_log.specs.Records.{Placed};
     ghost use Rattle.part_log.specs.Log.{LogState, LogTable, IsLog, IsTable, disk_size};
+    ghost use Rattle.part_log.specs.Marks.{AreMarks};
 
     ghost Value = { LogState D };
 
     ghost view = { λ a. record {
       disk = a.disk;
-      table = record { settings = a.settings; segments = a.segments.items; next_generation = a.next_generation; end = a.end; slots = a.slots };
+      table = record { settings = a.settings; segments = a.segments.items; next_generation = a.next_generation; end = a.end; slots = a.slots; tokens = a.tokens };
       down = a.down;
     } };
 
-    // What is known of the bytes holds in every image, so that a crash leaves the records.
+    // What is known of the bytes holds in every image, so that a crash leaves the records. The marks are those of records.
     ghost invariant = { λ a.
-        let table : LogTable = record { settings = a.settings; segments = a.segments.items; next_generation = a.next_generation; end = a.end; slots = a.slots } in
-        IsTable table × (D.size a.disk ≡ disk_size a.settings) × (D.tells → a.down ≡ false → (placed : List Placed) × IsLog table (D.content a.disk) placed) };
+        let table : LogTable = record { settings = a.settings; segments = a.segments.items; next_generation = a.next_generation; end = a.end; slots = a.slots; tokens = a.tokens } in
+        IsTable table × (D.size a.disk ≡ disk_size a.settings) × (D.tells → a.down ≡ false → (placed : List Placed) × IsLog table (D.content a.disk) placed × AreMarks a.marks.list.items placed) };
 }
 
 impl<D: Disk> PartLog<D> {
-    /// Whether the end lsn, the next generation or the sequence of the manifest's cell is too near to its end. Such a
+    /// Whether the end lsn, the next generation or the sequence of one of the two cells is too near to its end. Such a
     /// log takes no record.
     pub fn worn(&self) -> bool
         ensures { result ≡ is_worn self.now.table }
     {
-        self.end >= WORN || self.next_generation >= WORN || self.slots.sequence() >= WORN
+        self.end >= WORN
+            || self.next_generation >= WORN
+            || self.slots.sequence() >= WORN
+            || self.tokens.sequence() >= WORN
     }
 
     /// The live segments, in log order.
@@ -102,9 +111,11 @@ impl<D: Disk> PartLog<D> {
             disk,
             settings: _,
             slots: _,
+            tokens: _,
             segments: _,
             next_generation: _,
             end: _,
+            marks: _,
             down: _,
         } = self;
         disk

@@ -4,17 +4,18 @@ ghost use Rattle.std.specs.Prelude.{◌≡◌, ◌+◌, ◌^◌, ◌<◌, ◌≤
 ghost use Rattle.outside.specs.Causes.{Rose};
 ghost use Rattle.disk_core.specs.Content.{ChangesBy, Same, range};
 ghost use Rattle.log_manifest.specs.declared.manifest.LogSettings.{LogSettings};
-ghost use Rattle.part_log.specs.declared.segment.Found.{Found};
 ghost use Rattle.part_log.specs.declared.segment.SegmentInfo.{SegmentInfo};
-ghost use Rattle.part_log.specs.Records.{Written};
-ghost use Rattle.part_log.specs.Segments.{lives_of, place_of, with_firsts};
+ghost use Rattle.part_log.specs.Records.{Written, placed_from};
+ghost use Rattle.part_log.specs.Segments.{live_of, lives_of, place_of, with_firsts};
 ghost use Rattle.part_log.specs.Images.{EndBadly, EndsBadly};
-ghost use Rattle.part_log.specs.Log.{AllFit};
-ghost use Rattle.part_log.specs.Scan.{AreRead, IsHeld};
+ghost use Rattle.part_log.specs.Log.{AllFit, placed_in};
+ghost use Rattle.part_log.specs.Marks.{MarksOn};
+ghost use Rattle.part_log.specs.Scan.{AreRead, IsHeld, TakesAll, found_of};
 
+use crate::collect::Collect;
 use crate::fault::OpenFault;
 use crate::scan::{Scan, read_segment};
-use crate::segment::{Found, SegmentInfo};
+use crate::segment::SegmentInfo;
 use crate::table::place_of;
 use blob_id::Memory;
 use disk_core::Disk;
@@ -29,23 +30,14 @@ pub(crate) fn add_info(segments: &mut Vec<SegmentInfo>, info: SegmentInfo) -> Re
     Ok(())
 }
 
-/// The lsn of what was found at a place of the list, or 0 where nothing stands there.
-fn lsn_at(found: &[Found], place: usize) -> u64
-    ensures { (before more : List Found) → (one : Found) → found.now ≡ before ++ one ∷ more → length before ≡ place → result ≡ one.head.lsn }
-{
-    match found.get(place) {
-        Some(one) => one.head.lsn,
-        None => 0,
-    }
-}
-
-/// Reads the records of a live segment.
-fn read_live<D: Disk>(
+/// Reads the records of a live segment, and hands them to the collector.
+fn read_live<D: Disk, C: Collect>(
     alloc: Global,
     disk: &mut D,
     settings: &LogSettings,
     live: &Live,
     scan: &mut Scan,
+    collector: &mut C,
     segments: &mut Vec<SegmentInfo>,
 ) -> Result<(), OpenFault>
     requires inside { place_of settings.now.segment live.now.segment + settings.now.segment ≤ D.size disk.old }
@@ -58,9 +50,11 @@ fn read_live<D: Disk>(
     ensures next { scan.new.next ≤ 2 ^ 63 }
 
     ensures fit { OnOk result (AllFit settings.now.segment segments.old.items → AllFit settings.now.segment segments.new.items) }
-    ensures lives { OnOk result (lives_of segments.new.items ≡ lives_of segments.old.items ++ live.now ∷ []) }
-    ensures read { OnOk result (D.tells → (parts : List (List Written)) → AreRead settings.now.segment (D.content disk.old).seen segments.old.items scan.old.next scan.old.found.items parts
-        → (part : List Written) × AreRead settings.now.segment (D.content disk.old).seen segments.new.items scan.new.next scan.new.found.items (parts ++ part ∷ [])) }
+    ensures more { OnOk result ((info : SegmentInfo) × (live_of info ≡ live.now) × (segments.new.items ≡ segments.old.items ++ info ∷ [])) }
+    ensures read { OnOk result (D.tells → (parts : List (List Written)) → AreRead settings.now.segment (D.content disk.old).seen segments.old.items scan.old.next parts
+        → (part : List Written) × AreRead settings.now.segment (D.content disk.old).seen segments.new.items scan.new.next (parts ++ part ∷ [])
+        × TakesAll C.takes collector.old (found_of (placed_from (place_of settings.now.segment live.now.segment) part)) collector.new
+        × MarksOn scan.old.marks.list.items (placed_from (place_of settings.now.segment live.now.segment) part) scan.new.marks.list.items) }
 
     ensures damaged { (at : ℕ) → IsErrOf result (OpenFault.Damaged at) → D.tells
         → (offset : ℕ) × (at ≡ place_of settings.now.segment live.now.segment + offset) × EndsBadly scan.old.next (range (place_of settings.now.segment live.now.segment) settings.now.segment (D.content disk.old).seen) offset }
@@ -69,30 +63,28 @@ fn read_live<D: Disk>(
     ensures disk_size { D.size disk.new ≡ D.size disk.old }
     ensures later { D.faults disk.old ≤ D.faults disk.new }
 {
-    let known = scan.found.len();
     let start = place_of(settings, live.segment);
-    let used = read_segment(alloc, disk, scan, start, settings.segment)?;
-    let first = lsn_at(&scan.found, known);
+    let extent = read_segment(alloc, disk, scan, collector, start, settings.segment)?;
     let info = SegmentInfo {
         segment: live.segment,
         generation: live.generation,
-        used,
-        first,
+        used: extent.used,
+        first: extent.first,
     };
     add_info(segments, info)?;
     Ok(())
 }
 
-/// Reads the records of all live segments.
-pub(crate) fn read_lives<D: Disk>(
+/// Reads the records of all live segments, and hands them to the collector.
+pub(crate) fn read_lives<D: Disk, C: Collect>(
     alloc: Global,
     disk: &mut D,
     settings: &LogSettings,
     lives: &[Live],
     scan: &mut Scan,
+    collector: &mut C,
 ) -> Result<Vec<SegmentInfo>, OpenFault>
     requires inside { All (λ live. place_of settings.now.segment live.segment + settings.now.segment ≤ D.size disk.old) lives.now }
-    requires fresh { scan.old.found.items ≡ [] }
     requires piece { scan.old.piece.bytes.items ≡ [] }
     requires next { scan.old.next ≡ 0 }
 
@@ -101,7 +93,8 @@ pub(crate) fn read_lives<D: Disk>(
     ensures next { scan.new.next ≤ 2 ^ 63 }
     ensures fit { IfOk result (λ segments. AllFit settings.now.segment segments.items) }
     ensures lives { IfOk result (λ segments. lives_of segments.items ≡ lives.now) }
-    ensures read { IfOk result (λ segments. D.tells → (parts : List (List Written)) × AreRead settings.now.segment (D.content disk.old).seen segments.items scan.new.next scan.new.found.items parts) }
+    ensures read { IfOk result (λ segments. D.tells → (parts : List (List Written)) × AreRead settings.now.segment (D.content disk.old).seen segments.items scan.new.next parts
+        × TakesAll C.takes collector.old (found_of (placed_in settings.now.segment segments.items parts)) collector.new × MarksOn scan.old.marks.list.items (placed_in settings.now.segment segments.items parts) scan.new.marks.list.items) }
 
     ensures damaged { (at : ℕ) → IsErrOf result (OpenFault.Damaged at) → D.tells → EndBadly settings.now.segment (D.content disk.old).seen lives.now at }
     ensures failed { IsErrOf result OpenFault.Failed → Rose (D.faults disk.old) (D.faults disk.new) }
@@ -111,7 +104,7 @@ pub(crate) fn read_lives<D: Disk>(
 {
     let mut segments = Vec::new(alloc);
     for live in lives {
-        read_live(alloc, disk, settings, live, scan, &mut segments)?;
+        read_live(alloc, disk, settings, live, scan, collector, &mut segments)?;
     }
     Ok(segments)
 }

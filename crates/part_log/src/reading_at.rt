@@ -1,11 +1,11 @@
 //! Reading the record that stands at a place.
 
-ghost use Rattle.std.specs.Prelude.{◌≡◌, ◌+◌, ◌-◌, ◌<◌, ◌≤◌, ◌↔◌, ℕ, List, true, false, Some, OnOk, IfOk, IfSome, IsErrOf};
+ghost use Rattle.std.specs.Prelude.{◌≡◌, ◌+◌, ◌-◌, ◌<◌, ◌≤◌, ◌↔◌, ℕ, List, length, true, false, Some, OnOk, IfOk, IfSome, IsErrOf};
 ghost use Rattle.outside.specs.Causes.{Rose};
 ghost use Rattle.disk_core.specs.Content.{ChangesBy, Same, range};
 ghost use Rattle.msg_format.specs.declared.record.Record.{Record};
-ghost use Rattle.msg_format.specs.Records.{BeginsWith, IsRecord};
-ghost use Rattle.part_log.specs.Records.{HasPlace, Placed};
+ghost use Rattle.msg_format.specs.Records.{IsRecord, Spells};
+ghost use Rattle.part_log.specs.Records.{HasPlace, IsSpelledIn, Placed};
 ghost use Rattle.part_log.specs.Segments.{place_of};
 ghost use Rattle.part_log.specs.Log.{AreInRange, HasRecordAt, IsLog, IsVisible, disk_size};
 
@@ -16,7 +16,7 @@ use crate::table::CELLS;
 use blob_id::Memory;
 use disk_core::Disk;
 use log_manifest::LogSettings;
-use msg_format::{LONGEST_FRONT, Record, decode, decode_head};
+use msg_format::{Record, decode};
 use std::alloc::Global;
 
 /// How many bytes of its segment stand from a place on, or `None` where no segment has the place.
@@ -33,81 +33,87 @@ fn left_at(settings: &LogSettings, place: u64) -> Option<u32>
     Some(settings.segment - offset as u32)
 }
 
-/// The record in front of the bytes, if one stands there.
+/// The record that these bytes spell, if they spell one.
 fn record_of(alloc: Global, bytes: &[u8]) -> Result<Option<Record>, Memory>
-    ensures fields { IfOk result (λ found. IfSome found (λ entry. IsRecord entry)) }
-    ensures only { (entry : Record) → BeginsWith bytes.now entry → IfOk result (λ found. found ≡ Some entry) }
+    ensures spelled { IfOk result (λ found. IfSome found (λ entry. Spells bytes.now entry)) }
+    ensures only { (entry : Record) → Spells bytes.now entry → IfOk result (λ found. found ≡ Some entry) }
 {
     match decode(alloc, bytes)? {
-        Some((entry, _)) => Ok(Some(entry)),
+        Some((entry, len)) => {
+            if len == bytes.len() {
+                Ok(Some(entry))
+            } else {
+                Ok(None)
+            }
+        }
         None => Ok(None),
     }
 }
 
-/// The record that begins at a place of a segment, of which `left` bytes are left there, or `None` where none does. As
-/// many bytes are read as a record can have in front of its body, and then those that it has more.
+/// The record that `len` bytes of the disk spell, from a place on, or `None` where they spell none. It makes one call of
+/// the disk, and copies the body once.
 fn read_record<D: Disk>(
     alloc: Global,
     disk: &mut D,
     place: u64,
-    left: usize,
+    len: usize,
 ) -> Result<Option<Record>, ReadFault>
-    requires inside { place + left ≤ D.size disk.old }
+    requires inside { place + len ≤ D.size disk.old }
     ensures during { D.tells → ChangesBy Same (D.content disk.old) (D.content disk.new) }
     ensures seen { D.tells → (D.content disk.new).seen ≡ (D.content disk.old).seen }
-    ensures fields { IfOk result (λ found. IfSome found (λ entry. IsRecord entry)) }
-    ensures only { D.tells → (entry : Record) → BeginsWith (range place left (D.content disk.old).seen) entry → IfOk result (λ found. found ≡ Some entry) }
+    ensures spelled { IfOk result (λ found. IfSome found (λ entry. IsSpelledIn len entry)) }
+    ensures only { D.tells → (entry : Record) → Spells (range place len (D.content disk.old).seen) entry → IfOk result (λ found. found ≡ Some entry) }
     ensures failed { IsErrOf result ReadFault.Failed → Rose (D.faults disk.old) (D.faults disk.new) }
     ensures size { D.size disk.new ≡ D.size disk.old }
     ensures later { D.faults disk.old ≤ D.faults disk.new }
 {
-    let front = read_bytes(alloc, disk, place, &[], left.min(LONGEST_FRONT))?;
-    let Some(head) = decode_head(&front, left) else {
-        return Ok(None);
-    };
-    if head.len <= front.len() {
-        return Ok(record_of(alloc, &front)?);
-    }
-    let bytes = read_bytes(alloc, disk, place, &front, head.len)?;
+    let bytes = read_bytes(alloc, disk, place, &[], len)?;
     Ok(record_of(alloc, &bytes)?)
 }
 
-/// The record that stands at a place of a segment. `Failed` where none does.
+/// The record that `len` bytes of a segment spell, from a place on. `Failed` where they spell none.
 fn read_placed<D: Disk>(
     alloc: Global,
     disk: &mut D,
     settings: &LogSettings,
     place: u64,
+    len: usize,
 ) -> Result<Record, ReadFault>
     requires ranges { AreInRange settings.now }
     requires size { D.size disk.old ≡ disk_size settings.now }
     ensures during { D.tells → ChangesBy Same (D.content disk.old) (D.content disk.new) }
     ensures seen { D.tells → (D.content disk.new).seen ≡ (D.content disk.old).seen }
-    ensures fields { IfOk result (λ found. IsRecord found) }
-    ensures read { D.tells → (entry : Record) → (text : List ℕ) → IsVisible settings.now (D.content disk.old).seen (record { entry = entry; text = text; place = place }) → IfOk result (λ found. found ≡ entry) }
+    ensures spelled { IfOk result (λ found. IsSpelledIn len found) }
+    ensures read { D.tells → (entry : Record) → (text : List ℕ) → length text ≡ len → IsVisible settings.now (D.content disk.old).seen (record { entry = entry; text = text; place = place }) → IfOk result (λ found. found ≡ entry) }
     // Over a disk that tells the record, it is the disk that failed.
-    ensures failed { IsErrOf result ReadFault.Failed → D.tells → (entry : Record) → (text : List ℕ) → IsVisible settings.now (D.content disk.old).seen (record { entry = entry; text = text; place = place }) → Rose (D.faults disk.old) (D.faults disk.new) }
+    ensures failed { IsErrOf result ReadFault.Failed → D.tells → (entry : Record) → (text : List ℕ) → length text ≡ len → IsVisible settings.now (D.content disk.old).seen (record { entry = entry; text = text; place = place }) → Rose (D.faults disk.old) (D.faults disk.new) }
     ensures size { D.size disk.new ≡ D.size disk.old }
     ensures later { D.faults disk.old ≤ D.faults disk.new }
 {
     let Some(left) = left_at(settings, place) else {
         return Err(ReadFault::Failed);
     };
-    match read_record(alloc, disk, place, left as usize)? {
+    if len > left as usize {
+        return Err(ReadFault::Failed);
+    }
+    match read_record(alloc, disk, place, len)? {
         Some(entry) => Ok(entry),
         None => Err(ReadFault::Failed),
     }
 }
 
 impl<D: Disk> PartLog<D> {
-    /// The record that stands at a place, which an append answered or an opening found. It makes two calls of the disk at
-    /// most, and copies the body once. After `Memory` the log goes on; after `Failed` it is down. A disk that doesn't tell
-    /// its bytes may have lost the record: that is `Failed` too, and so is then a place in no segment.
-    pub fn read_at(&mut self, alloc: Global, place: u64) -> Result<Record, LogFault>
-        requires visible { D.tells → self.old.down ≡ false → HasRecordAt self.old.table (D.content self.old.disk) place }
+    /// The record that stands at a place, which an append answered or an opening found, and whose text has `len` bytes. It
+    /// makes one call of the disk, for those bytes, and copies the body once. After `Memory` the log goes on; after `Failed`
+    /// it is down. A disk that doesn't tell its bytes may have lost the record: where they spell no record of this length,
+    /// or don't stand in one segment, that is `Failed` too.
+    pub fn read_at(&mut self, alloc: Global, place: u64, len: usize) -> Result<Record, LogFault>
+        requires visible { D.tells → self.old.down ≡ false → HasRecordAt self.old.table (D.content self.old.disk) place len }
 
         // It is the record that was put there.
-        ensures read { D.tells → (placed : List Placed) → IsLog self.old.table (D.content self.old.disk) placed → (entry : Record) → HasPlace entry place placed → IfOk result (λ found. found ≡ entry) }
+        ensures read { D.tells → (placed : List Placed) → IsLog self.old.table (D.content self.old.disk) placed → (entry : Record) → HasPlace entry place len placed → IfOk result (λ found. found ≡ entry) }
+        // Whatever the disk tells, so many bytes spell it.
+        ensures spelled { IfOk result (λ found. IsSpelledIn len found) }
         ensures fields { IfOk result (λ found. IsRecord found) }
 
         // Nothing changes on the disk or of the log.
@@ -128,7 +134,7 @@ impl<D: Disk> PartLog<D> {
         if self.down {
             return Err(LogFault::Down);
         }
-        match read_placed(alloc, &mut self.disk, &self.settings, place) {
+        match read_placed(alloc, &mut self.disk, &self.settings, place, len) {
             Ok(entry) => Ok(entry),
             Err(ReadFault::Failed) => {
                 self.down = true;

@@ -4,14 +4,15 @@ ghost use Rattle.std.specs.Prelude.{◌≡◌, ◌⊎◌, ◌+◌, ◌-◌, ◌^
 ghost use Rattle.outside.specs.Causes.{HasCause, Rose};
 ghost use Rattle.disk_core.specs.Content.{ChangesBy, IsSettled, Only};
 ghost use Rattle.gate_slots.specs.Cell.{cell_at};
-ghost use Rattle.gate_slots.specs.Slots.{IsLoaded};
+ghost use Rattle.gate_slots.specs.Gate.{IsZeroed};
+ghost use Rattle.gate_slots.specs.Slots.{CurrentSlot, IsLoaded};
 ghost use Rattle.log_manifest.specs.declared.manifest.LogSettings.{LogSettings};
 ghost use Rattle.log_manifest.specs.Manifests.{manifest_text};
 ghost use Rattle.part_log.specs.Records.{Placed, records_of};
 ghost use Rattle.part_log.specs.Segments.{place_of, ChangesIn};
 ghost use Rattle.part_log.specs.Images.{KeepsLog, OpensLog};
 ghost use Rattle.part_log.specs.Layout.{with_new_segment};
-ghost use Rattle.part_log.specs.Log.{AllVisible, AreInRange, IsLog, IsRolling, LogTable, first_table, layout_of, manifest_of, is_packed, is_worn, least_free, rolled_table, takes_no_segment};
+ghost use Rattle.part_log.specs.Log.{AllVisible, AreInRange, IsLog, IsRolling, IsTokenSlot, LogTable, first_table, layout_of, manifest_of, is_packed, is_worn, least_free, rolled_table, takes_no_segment};
 
 use crate::fault::LogFault;
 use crate::log::PartLog;
@@ -44,10 +45,11 @@ pub(crate) fn name_segment<D: Disk>(
     ensures rolled { OnOk result (D.tells → (table : LogTable) → (target : ℕ) → (placed : List Placed) → IsRolling table slots.old target text.now → place ≡ place_of table.settings.segment target
         → IsLog table (D.content disk.old) placed → IsLog (rolled_table table target slots.new) (D.content disk.new) placed) }
     // A new disk stands for the empty log, then as before.
-    ensures formats { D.tells → (settings : LogSettings) → AreInRange settings → place ≡ 4096 → text.now ≡ manifest_text (manifest_of (first_table settings slots.old) 0)
+    ensures formats { D.tells → (settings : LogSettings) (tokens : CurrentSlot) → AreInRange settings → IsTokenSlot tokens → IsLoaded tokens (D.content disk.old).seen → place ≡ 4096 → text.now ≡ manifest_text (manifest_of (first_table settings slots.old tokens) 0)
         → Only (D.content disk.old) → (cell_at 0 (D.content disk.old).seen).value ≡ None → ChangesBy (OpensLog settings) (D.content disk.old) (D.content disk.new) }
-    ensures formatted { OnOk result (D.tells → (settings : LogSettings) → AreInRange settings → place ≡ 4096 → text.now ≡ manifest_text (manifest_of (first_table settings slots.new) 0)
-        → Only (D.content disk.old) → (cell_at 0 (D.content disk.old).seen).value ≡ None → IsLog (first_table settings slots.new) (D.content disk.new) []) }
+    ensures formatted { OnOk result (D.tells → (settings : LogSettings) (tokens : CurrentSlot) → AreInRange settings → IsTokenSlot tokens → IsLoaded tokens (D.content disk.old).seen → place ≡ 4096 → text.now ≡ manifest_text (manifest_of (first_table settings slots.new tokens) 0)
+        → Only (D.content disk.old) → (cell_at 0 (D.content disk.old).seen).value ≡ None → IsLog (first_table settings slots.new tokens) (D.content disk.new) []) }
+    ensures zero { OnOk result (D.tells → IsZeroed place (D.content disk.new)) }
     ensures only { OnOk result (D.tells → Only (D.content disk.new)) }
     ensures outside { D.tells → (segment : ℕ) → (target : ℕ) → 1 ≤ segment → place ≡ place_of segment target → ChangesIn segment target (D.content disk.old).seen (D.content disk.new).seen }
     ensures slots { OnOk result (slots.new ≡ record { base = 0; sequence = slots.old.sequence + 1; second = not slots.old.second }) }
@@ -89,6 +91,7 @@ impl<D: Disk> PartLog<D> {
         ensures rolled { OnOk result (D.tells → (placed : List Placed) → IsLog self.old.table (D.content self.old.disk) placed → IsLog self.new.table (D.content self.new.disk) placed) }
         ensures outside { D.tells → ChangesIn self.old.table.settings.segment (least_free self.old.table) (D.content self.old.disk).seen (D.content self.new.disk).seen }
         ensures visible { D.tells → (placed : List Placed) → IsLog self.old.table (D.content self.old.disk) placed → AllVisible self.old.table.settings (D.content self.new.disk).seen placed }
+        ensures zero { OnOk result (D.tells → IsZeroed (place_of self.old.table.settings.segment (least_free self.old.table)) (D.content self.new.disk)) }
         ensures table { OnOk result (self.new.table ≡ rolled_table self.old.table (least_free self.old.table) self.new.table.slots) }
         ensures layout { OnOk result (layout_of self.new.table ≡ with_new_segment (layout_of self.old.table)) }
         ensures up { OnOk result (self.new.down ≡ false) }
@@ -132,6 +135,8 @@ impl<D: Disk> PartLog<D> {
             → ChangesBy (KeepsLog self.old.table.settings (least_free self.old.table) (records_of placed) self.old.table.end) (D.content self.old.disk) (D.content self.new.disk) }
         ensures rolled { OnOk result (D.tells → (placed : List Placed) → IsLog self.old.table (D.content self.old.disk) placed → IsLog self.new.table (D.content self.new.disk) placed) }
         ensures outside { D.tells → ChangesIn self.old.table.settings.segment (least_free self.old.table) (D.content self.old.disk).seen (D.content self.new.disk).seen }
+        // The first gate of the new segment was closed by a 0.
+        ensures zero { OnOk result (D.tells → IsZeroed (place_of self.old.table.settings.segment (least_free self.old.table)) (D.content self.new.disk)) }
         ensures table { OnOk result (self.new.table ≡ rolled_table self.old.table (least_free self.old.table) self.new.table.slots) }
         ensures layout { OnOk result (layout_of self.new.table ≡ with_new_segment (layout_of self.old.table)) }
 

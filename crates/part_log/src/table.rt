@@ -9,6 +9,9 @@ use blob_id::{Bytes, Listed, Memory};
 use log_manifest::{Live, LogSettings, Manifest, write_manifest};
 use std::alloc::Global;
 
+/// Where the token cell begins. The manifest's cell stands in front of it.
+pub(crate) const TOKENS: u64 = 2_048;
+
 /// How many bytes stand in front of the segments: the manifest's cell and the token cell.
 pub(crate) const CELLS: u64 = 4_096;
 

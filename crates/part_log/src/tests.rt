@@ -58,7 +58,11 @@ pub(crate) fn open_log<D: Disk>(
         segments,
         index: 1000,
     };
-    PartLog::open(alloc, disk, settings)
+    let mut found = Vec::new(alloc);
+    match PartLog::open(alloc, disk, settings, &mut found) {
+        Ok(log) => Ok((log, found)),
+        Err(refusal) => Err(refusal),
+    }
 }
 
 /// A record of so many bytes: a delete has 38, and a put has 45 and those of its body, which tell its lsn.

@@ -1,5 +1,5 @@
 use Rattle.std.proofs.Common.{◌∙◌, sym}
-use Rattle.gate_slots.proofs.Gates.{shuts, was_shut, stays_shut, now_shut, read_byte}
+use Rattle.gate_slots.proofs.Gates.{shuts, was_shut, stays_shut, now_zeroed, zeroed_shut, read_byte}
 use Rattle.gate_slots.proofs.gate.close_gate.Goals as goal
 
 pub returns-in_err-write_synced-clause-during : goal.returns-in_err-write_synced-clause-during
@@ -17,7 +17,17 @@ returns-in_ok-write_synced-clause-during g c = λ t.
 pub returns-in_ok-write_synced-clause-closed : goal.returns-in_ok-write_synced-clause-closed
 returns-in_ok-write_synced-clause-closed g c = λ t.
     let done = c.in_ok-write_synced.ensures.told t in
-    now_shut c.args.gate (g.D.Disk.content c.read.new.self) (g.D.Disk.content c.write_synced.new.disk) done.written done.only
+    zeroed_shut c.args.gate (g.D.Disk.content c.write_synced.new.disk) (now_zeroed c.args.gate (g.D.Disk.content c.read.new.self) (g.D.Disk.content c.write_synced.new.disk) done.written done.only)
+
+pub returns-in_ok-write_synced-clause-zero : goal.returns-in_ok-write_synced-clause-zero
+returns-in_ok-write_synced-clause-zero g c = λ t was.
+    let done = c.in_ok-write_synced.ensures.told t in
+    now_zeroed c.args.gate (g.D.Disk.content c.read.new.self) (g.D.Disk.content c.write_synced.new.disk) done.written done.only
+
+pub returns-else-byte-eq-OPEN-clause-zero : goal.returns-else-byte-eq-OPEN-clause-zero
+returns-else-byte-eq-OPEN-clause-zero g c = λ t was.
+    let byte = read_byte c.args.gate c.read.new.buf (g.D.Disk.content c.args.disk.now).seen (c.in_ok-read.ensures.told t).given c.read.auto.buf in
+    absurd (c.if-byte-eq-OPEN.false (sym byte ∙ was))
 
 pub returns-else-byte-eq-OPEN-clause-during : goal.returns-else-byte-eq-OPEN-clause-during
 returns-else-byte-eq-OPEN-clause-during g c = λ t.

@@ -1,8 +1,10 @@
-use Rattle.std.proofs.Common.{◌≡◌, inl, inr, Option, IfSome, IfOk, ◌∙◌, subst, rules}
+use Rattle.std.proofs.Common.{◌≡◌, inl, inr, List, Option, IfSome, IfOk, ◌∙◌, subst, rules}
 use Rattle.log_manifest.specs.declared.manifest.LogSettings.{LogSettings}
 use Rattle.log_manifest.specs.declared.manifest.Manifest.{Manifest}
 use Rattle.log_manifest.specs.Manifests.{IsManifest, manifest_text}
 use Rattle.part_log.specs.Opened.{IsOpened}
+use Rattle.part_log.specs.Records.{Placed}
+use Rattle.part_log.specs.Scan.{found_of, TakesAll}
 use Rattle.part_log.proofs.Scanning.{damaged_there}
 use Rattle.part_log.proofs.Reopening.{gate_is, damaged_named}
 use Rattle.part_log.proofs.opening.read_named.Goals as goal
@@ -18,7 +20,8 @@ returns-in_default-clause-damaged g c = λ at is t. inl (record {
 pub returns-clause-opened : goal.returns-clause-opened
 returns-clause-opened g c =
     let same : c.in-Some.manifest.settings ≡ c.args.settings = search rules in
-    subst (λ (s : LogSettings). IfOk c.read_log.result (λ opened. g.D.Disk.tells → IsOpened s (g.D.Disk.content c.args.disk.now).seen opened (g.D.Disk.content c.read_log.new.disk))) same c.read_log.ensures.opened
+    subst (λ (s : LogSettings). IfOk c.read_log.result (λ opened. g.D.Disk.tells → (placed : List Placed) × IsOpened s (g.D.Disk.content c.args.disk.now).seen opened (g.D.Disk.content c.read_log.new.disk) placed
+    × TakesAll g.C.Collect.takes c.args.collector.now (found_of placed) c.read_log.new.collector)) same c.read_log.ensures.opened
 
 pub returns-clause-damaged : goal.returns-clause-damaged
 returns-clause-damaged g c = λ at is t.

@@ -1,4 +1,4 @@
-use Rattle.std.proofs.Common.{◌+◌, [], ◌∷◌, ◌++◌, ◌∙◌, ap, subst, arith}
+use Rattle.std.proofs.Common.{◌+◌, ◌∙◌, ap, subst, arith}
 use Rattle.disk_core.specs.Content.{range}
 use Rattle.msg_format.specs.declared.record.Head.{Head}
 use Rattle.part_log.specs.declared.piece.Beginning.{Beginning}
@@ -6,18 +6,17 @@ use Rattle.part_log.specs.Scan.{BeginsAs}
 use Rattle.part_log.proofs.Scanning.{damaged_there}
 use Rattle.part_log.proofs.scan.read_next.Goals as goal
 
-pub returns-in_ok-add-in-Entry-clause-read : goal.returns-in_ok-add-in-Entry-clause-read
-returns-in_ok-add-in-Entry-clause-read g c = λ t.
+pub returns-else-lsn-scan-clause-read : goal.returns-else-lsn-scan-clause-read
+returns-else-lsn-scan-clause-read g c = λ t.
     let bytes = range c.args.place c.args.left (g.D.Disk.content c.args.disk.now).seen in
     let begins = subst (λ (b : Beginning). BeginsAs bytes b) c.in-Entry.is (c.in_ok-beginning.ensures.begins t) in
     let head_is = begins.2 in
     record {
       entry = begins.0;
       begins = begins.1;
-      size_is = ap (λ (h : Head). h.len) head_is;
       rises = omega (arith, c.if-lsn-scan.false, ap (λ (h : Head). h.lsn) head_is);
       next_is = ap (λ (h : Head). h.lsn + 1) head_is;
-      found_is = c.in_ok-add-in-Entry.ensures ∙ ap (λ (h : Head). c.args.scan.now.found.items ++ record { place = c.args.place; head = h } ∷ []) head_is;
+      one_is = ap (λ (h : Head). record { place = c.args.place; head = h }) head_is;
     }
 
 pub returns-in-Broken-clause-damaged : goal.returns-in-Broken-clause-damaged

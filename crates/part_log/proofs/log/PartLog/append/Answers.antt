@@ -9,12 +9,13 @@ use Rattle.part_log.proofs.Room.{nothing_kept, room_there, put_there, changes_th
 use Rattle.part_log.proofs.Putting.{keeps_as_put, keeps_then_put}
 use Rattle.part_log.proofs.Segments.{writes_twice}
 use Rattle.part_log.proofs.Staying.{visible_there}
+use Rattle.part_log.proofs.Tables.{table_of}
 use Rattle.part_log.proofs.log.PartLog.append.Goals as goal
 
 pub returns-then-self-clause-during : goal.returns-then-self-clause-during
 returns-then-self-clause-during g c =
     let s = c.self.inside in
-    let table : LogTable = record { settings = s.settings; segments = s.segments.items; next_generation = s.next_generation; end = s.end; slots = s.slots } in
+    let table : LogTable = table_of s.settings s.segments.items s.next_generation s.end s.slots s.tokens in
     let good : IsTable table = c.self.invariant.0 in
     rw (← c.self.view_is) (λ t placed log.
     keeps_as_put table table (target_of table (record_size c.args.entry.now)) c.args.entry.now (records_of placed) (g.D.Disk.content s.disk) (g.D.Disk.content s.disk) (g.D.Disk.content s.disk)
@@ -23,7 +24,7 @@ returns-then-self-clause-during g c =
 pub returns-then-is_full-clause-during : goal.returns-then-is_full-clause-during
 returns-then-is_full-clause-during g c =
     let s = c.self.inside in
-    let table : LogTable = record { settings = s.settings; segments = s.segments.items; next_generation = s.next_generation; end = s.end; slots = s.slots } in
+    let table : LogTable = table_of s.settings s.segments.items s.next_generation s.end s.slots s.tokens in
     let good : IsTable table = c.self.invariant.0 in
     rw (← c.self.view_is) (λ t placed log.
     keeps_as_put table table (target_of table (record_size c.args.entry.now)) c.args.entry.now (records_of placed) (g.D.Disk.content s.disk) (g.D.Disk.content s.disk) (g.D.Disk.content s.disk)
@@ -32,7 +33,7 @@ returns-then-is_full-clause-during g c =
 pub returns-in_err-rest-clause-during : goal.returns-in_err-rest-clause-during
 returns-in_err-rest-clause-during g c =
     let s = c.self.inside in
-    let table : LogTable = record { settings = s.settings; segments = s.segments.items; next_generation = s.next_generation; end = s.end; slots = s.slots } in
+    let table : LogTable = table_of s.settings s.segments.items s.next_generation s.end s.slots s.tokens in
     let good : IsTable table = c.self.invariant.0 in
     rw (← c.self.view_is) (λ t placed log.
     keeps_as_put table table (target_of table (record_size c.args.entry.now)) c.args.entry.now (records_of placed) (g.D.Disk.content s.disk) (g.D.Disk.content s.disk) (g.D.Disk.content s.disk)
@@ -102,17 +103,17 @@ returns-clause-outside g c =
 pub returns-then-self-clause-visible : goal.returns-then-self-clause-visible
 returns-then-self-clause-visible g c =
     let s = c.self.inside in
-    let table : LogTable = record { settings = s.settings; segments = s.segments.items; next_generation = s.next_generation; end = s.end; slots = s.slots } in
+    let table : LogTable = table_of s.settings s.segments.items s.next_generation s.end s.slots s.tokens in
     rw (← c.self.view_is) (λ t placed log. visible_there table c.self.invariant.0 (g.D.Disk.content s.disk) placed log)
 
 pub returns-then-is_full-clause-visible : goal.returns-then-is_full-clause-visible
 returns-then-is_full-clause-visible g c =
     let s = c.self.inside in
-    let table : LogTable = record { settings = s.settings; segments = s.segments.items; next_generation = s.next_generation; end = s.end; slots = s.slots } in
+    let table : LogTable = table_of s.settings s.segments.items s.next_generation s.end s.slots s.tokens in
     rw (← c.self.view_is) (λ t placed log. visible_there table c.self.invariant.0 (g.D.Disk.content s.disk) placed log)
 
 pub returns-in_err-rest-clause-visible : goal.returns-in_err-rest-clause-visible
 returns-in_err-rest-clause-visible g c =
     let s = c.self.inside in
-    let table : LogTable = record { settings = s.settings; segments = s.segments.items; next_generation = s.next_generation; end = s.end; slots = s.slots } in
+    let table : LogTable = table_of s.settings s.segments.items s.next_generation s.end s.slots s.tokens in
     rw (← c.self.view_is) (λ t placed log. visible_there table c.self.invariant.0 (g.D.Disk.content s.disk) placed log)
