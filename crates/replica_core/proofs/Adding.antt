@@ -1,4 +1,4 @@
--- A record more, and its spot in the index.
+-- A record more, and its entry in the index.
 use Rattle.std.proofs.Common.{◌≡◌, inl, inr, ⊎_elim, ℕ, ◌+◌, List, [], ◌∷◌, ◌++◌, Bool, true, false, if◌then◌else◌, Some, None, Result, Ok, Err, OnOk, OnErr, sym, ◌∙◌, ap, subst}
 use Rattle.std.proofs.lemmas.Bool.{cases_Bool}
 use Rattle.disk_core.specs.Content.{Content, ChangesBy}
@@ -13,31 +13,31 @@ use Rattle.part_log.specs.Records.{Placed, placed_at, records_of}
 use Rattle.part_log.specs.Scan.{found_of}
 use Rattle.part_log.specs.Log.{LogTable, IsTable, IsLog, AllVisible}
 use Rattle.part_log.proofs.Records.{records_of-append}
-use Rattle.replica_core.specs.declared.index.Spot.{Spot}
+use Rattle.replica_core.specs.declared.index.IndexEntry.{IndexEntry}
 use Rattle.replica_core.specs.Maps.{is_same, cell_of, cell_for, cell_from, MayCome, JoinsCell, with_joined}
-use Rattle.replica_core.specs.Index.{spot_in, spot_set, spot_for, spot_of, noted, cells_of, IsIndexed}
+use Rattle.replica_core.specs.Index.{entry_in, entry_set, entry_for, entry_of, noted, cells_of, IsIndexed}
 use Rattle.replica_core.proofs.Maps.{cell_from-one}
 use Rattle.replica_core.proofs.Ids.{same_one}
-use Rattle.replica_core.proofs.Spots.{noted-one, found_of-one, index_cells, cell_at_spot, cell_in-cells, IsClear, noted_clear, comes_noted, spot_for-here, spot_for-apart}
+use Rattle.replica_core.proofs.IndexLemmas.{noted-one, found_of-one, index_cells, cell_at_entry, cell_in-cells, IsClear, noted_clear, comes_noted, entry_for-here, entry_for-apart}
 use Rattle.replica_core.proofs.Standing.{its_cells, its_visible}
 
-module _ (table : LogTable) (old : Content) (entries : List (List ℕ × Spot)) (entry : Record) (good : IsTable table) (indexed : IsIndexed table old entries) where
+module _ (table : LogTable) (old : Content) (lists : List (List (List ℕ × IndexEntry))) (entry : Record) (good : IsTable table) (indexed : IsIndexed table old lists) where
   -- the cells with what the record brings
-  joined_cells : (other : List ℕ) → cell_from (records_of indexed.placed ++ entry ∷ []) other ≡ with_joined (cell_in (cells_of old.seen entries)) (id_of entry) (cell_of entry) other
+  joined_cells : (other : List ℕ) → cell_from (records_of indexed.placed ++ entry ∷ []) other ≡ with_joined (cell_in (cells_of old.seen lists)) (id_of entry) (cell_of entry) other
   joined_cells other =
       cell_from-one (records_of indexed.placed) entry other
-      ∙ ap (λ (c : Cell). join c (cell_for other (id_of entry) (cell_of entry))) (sym (its_cells table old entries good indexed other))
+      ∙ ap (λ (c : Cell). join c (cell_for other (id_of entry) (cell_of entry))) (sym (its_cells table old lists good indexed other))
 
-  module _ (may : MayCome (cell_in (cells_of old.seen entries) (id_of entry)) entry) where
+  module _ (may : MayCome (cell_in (cells_of old.seen lists) (id_of entry)) entry) where
     -- while it is put
     pub joins : (new : Content) (target : ℕ) → ChangesBy (PutsLast table.settings target (records_of indexed.placed) table.end entry) old new
-        → ChangesBy (JoinsCell table.settings (cell_in (cells_of old.seen entries)) table.end (id_of entry) (cell_of entry)) old new
+        → ChangesBy (JoinsCell table.settings (cell_in (cells_of old.seen lists)) table.end (id_of entry) (cell_of entry)) old new
     joins new target puts =
-        widen (PutsLast table.settings target (records_of indexed.placed) table.end entry) (JoinsCell table.settings (cell_in (cells_of old.seen entries)) table.end (id_of entry) (cell_of entry)) old new puts (λ d c image by. ⊎_elim
+        widen (PutsLast table.settings target (records_of indexed.placed) table.end entry) (JoinsCell table.settings (cell_in (cells_of old.seen lists)) table.end (id_of entry) (cell_of entry)) old new puts (λ d c image by. ⊎_elim
         (λ (before : StandsFor table.settings c (records_of indexed.placed) table.end). inl (record {
           records = records_of indexed.placed;
           stands = before;
-          give = its_cells table old entries good indexed;
+          give = its_cells table old lists good indexed;
         }))
         (λ (after : StandsFor table.settings c (records_of indexed.placed ++ entry ∷ []) (table.end + 1)). inr (record {
           records = records_of indexed.placed ++ entry ∷ [];
@@ -46,22 +46,22 @@ module _ (table : LogTable) (old : Content) (entries : List (List ℕ × Spot)) 
         }))
         by.stands)
 
-    module _ (after : LogTable) (new : Content) (more : List (List ℕ × Spot)) (place : ℕ) (log : IsLog after new (indexed.placed ++ placed_at entry place ∷ []))
-        (sets : (other : List ℕ) → spot_in more other ≡ spot_set (record { place = place; head = head_of entry (spelling_of entry) }) other (spot_in entries other)) where
+    module _ (after : LogTable) (new : Content) (more : List (List (List ℕ × IndexEntry))) (place : ℕ) (log : IsLog after new (indexed.placed ++ placed_at entry place ∷ []))
+        (sets : (other : List ℕ) → entry_in more other ≡ entry_set (record { place = place; head = head_of entry (spelling_of entry) }) other (entry_in lists other)) where
       -- what is set for it is what is noted
-      set_noted : (id : List ℕ) → spot_set (record { place = place; head = head_of entry (spelling_of entry) }) id (spot_in entries id) ≡ spot_for (record { place = place; head = head_of entry (spelling_of entry) }) id (spot_in entries id)
+      set_noted : (id : List ℕ) → entry_set (record { place = place; head = head_of entry (spelling_of entry) }) id (entry_in lists id) ≡ entry_for (record { place = place; head = head_of entry (spelling_of entry) }) id (entry_in lists id)
       set_noted id = ⊎_elim
           (λ (is : is_same (id_of entry) id ≡ true).
-          let at : spot_in entries id ≡ spot_in entries (id_of entry) = ap (spot_in entries) (sym (same_one (id_of entry) id is)) in
+          let at : entry_in lists id ≡ entry_in lists (id_of entry) = ap (entry_in lists) (sym (same_one (id_of entry) id is)) in
           let one : Found = record { place = place; head = head_of entry (spelling_of entry) } in
-          let cell : cell_in (cells_of old.seen entries) (id_of entry) ≡ cell_at_spot old.seen (spot_in entries id) = cell_in-cells old.seen entries (id_of entry) ∙ ap (cell_at_spot old.seen) (sym at) in
-          let clear : IsClear old.seen (spot_in entries id) = subst (IsClear old.seen) (sym (indexed.index id)) (noted_clear table.settings old.seen indexed.placed id (its_visible table old entries good indexed)) in
-          ap (λ (b : Bool). if b then Some (spot_of one) else spot_in entries id) is
-          ∙ sym (comes_noted old.seen (spot_in entries id) entry (spelling_of entry) place clear (subst (λ (c : Cell). MayCome c entry) cell may))
-          ∙ sym (spot_for-here one id (spot_in entries id) is))
+          let cell : cell_in (cells_of old.seen lists) (id_of entry) ≡ cell_at_entry old.seen (entry_in lists id) = cell_in-cells old.seen lists (id_of entry) ∙ ap (cell_at_entry old.seen) (sym at) in
+          let clear : IsClear old.seen (entry_in lists id) = subst (IsClear old.seen) (sym (indexed.index id)) (noted_clear table.settings old.seen indexed.placed id (its_visible table old lists good indexed)) in
+          ap (λ (b : Bool). if b then Some (entry_of one) else entry_in lists id) is
+          ∙ sym (comes_noted old.seen (entry_in lists id) entry (spelling_of entry) place clear (subst (λ (c : Cell). MayCome c entry) cell may))
+          ∙ sym (entry_for-here one id (entry_in lists id) is))
           (λ (is : is_same (id_of entry) id ≡ false).
           let one : Found = record { place = place; head = head_of entry (spelling_of entry) } in
-          ap (λ (b : Bool). if b then Some (spot_of one) else spot_in entries id) is ∙ sym (spot_for-apart one id (spot_in entries id) is))
+          ap (λ (b : Bool). if b then Some (entry_of one) else entry_in lists id) is ∙ sym (entry_for-apart one id (entry_in lists id) is))
           (cases_Bool (is_same (id_of entry) id))
 
       -- when it was put
@@ -74,12 +74,12 @@ module _ (table : LogTable) (old : Content) (entries : List (List ℕ × Spot)) 
             log = log;
             index = λ id. sets id
                 ∙ set_noted id
-                ∙ ap (spot_for one id) (indexed.index id)
+                ∙ ap (entry_for one id) (indexed.index id)
                 ∙ sym (noted-one None (found_of indexed.placed) one id)
                 ∙ ap (λ (l : List Found). noted l id) (sym (found_of-one indexed.placed p));
           }
 
-      pub added_cells : IsTable after → (other : List ℕ) → cell_in (cells_of new.seen more) other ≡ with_joined (cell_in (cells_of old.seen entries)) (id_of entry) (cell_of entry) other
+      pub added_cells : IsTable after → (other : List ℕ) → cell_in (cells_of new.seen more) other ≡ with_joined (cell_in (cells_of old.seen lists)) (id_of entry) (cell_of entry) other
       unfolding added_index
       added_cells fine other =
           its_cells after new more fine added_index other
@@ -87,8 +87,8 @@ module _ (table : LogTable) (old : Content) (entries : List (List ℕ × Spot)) 
           ∙ joined_cells other
 
   -- where it wasn't put, and each record from before can be read still
-  pub kept_cells : (new : List ℕ) → AllVisible table.settings new indexed.placed → (other : List ℕ) → cell_in (cells_of new entries) other ≡ cell_in (cells_of old.seen entries) other
-  kept_cells new visible other = index_cells table.settings new entries indexed.placed indexed.index visible other ∙ sym (its_cells table old entries good indexed other)
+  pub kept_cells : (new : List ℕ) → AllVisible table.settings new indexed.placed → (other : List ℕ) → cell_in (cells_of new lists) other ≡ cell_in (cells_of old.seen lists) other
+  kept_cells new visible other = index_cells table.settings new lists indexed.placed indexed.index visible other ∙ sym (its_cells table old lists good indexed other)
 
 -- an answer that is no refusal
 pub ok_since : {T E P Q : Type 0} (result : Result T E) → OnOk result P → OnErr result Q → (Q → ⊥) → P

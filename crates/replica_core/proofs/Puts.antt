@@ -1,13 +1,21 @@
--- A record that was read is the put that stands there.
-use Rattle.std.proofs.Common.{◌≡◌, ℕ, List}
+-- The blob of a record that was read.
+use Rattle.std.proofs.Common.{◌≡◌, ℕ, List, Option, Some, None, IfOk, IsErrOf, refl, subst}
+use Rattle.std.specs.Option.{ok_or}
 use Rattle.blob_id.specs.declared.blob.Blob.{Blob}
-use Rattle.msg_format.specs.declared.record.Record.TheVariants.{Put, Delete}
+use Rattle.blob_id.specs.Blob.{IsBlob}
+use Rattle.msg_format.specs.declared.record.Record.{Record}
+use Rattle.msg_format.specs.Records.{IsRecord}
+use Rattle.part_log.specs.declared.fault.LogFault.{LogFault}
+use Rattle.replica_core.specs.Index.{IsPutOf}
 
-pub same_blob : (m n : ℕ) (id other : List ℕ) (a b : Blob) → Put m id a ≡ Put n other b → a ≡ b
-same_blob m n id other a b same = cc same
+pub put_fields : (id : List ℕ) (blob : Blob) (found : Record) → IsPutOf id blob found → IsRecord found → IsBlob blob
+put_fields id blob found put fields = let its = subst (λ (r : Record). IsRecord r) put.1 fields in its.content
 
-pub same_id : (m n : ℕ) (id other : List ℕ) (a b : Blob) → Put m id a ≡ Put n other b → id ≡ other
-same_id m n id other a b same = cc same
+-- what is answered is what was found
+pub if_found : (found : Option Blob) (fault : LogFault) (P : Blob → Type 0) → ((blob : Blob) → found ≡ Some blob → P blob) → IfOk (ok_or found fault) P
+if_found (Some blob) fault P has = has blob refl
+if_found None fault P has = tt
 
-pub not_delete : (m n : ℕ) (id other : List ℕ) (created : ℕ) (b : Blob) → Delete m id created ≡ Put n other b → ⊥
-not_delete m n id other created b same = absurd (cc same)
+-- where one was found there is no fault
+pub not_failed : (found : Option Blob) (fault other : LogFault) (blob : Blob) → found ≡ Some blob → IsErrOf (ok_or found fault) other → ⊥
+not_failed found fault other blob is failed = let none = subst (λ (o : Option Blob). IsErrOf (ok_or o fault) other) is failed in absurd (cc none)

@@ -52,6 +52,10 @@ fn answer_of(reply: &Reply) -> Answer {
 #[derive(Drop)]
 struct Quiet<D: Disk> {
     disk: D,
+    /// How many calls were made.
+    calls: u64,
+    /// A place: where a read begins there, it is given as many bytes in front of it instead.
+    misread: Option<u64>,
 }
 
 type TestDisk = Quiet<FuseDisk<MemDisk>>;
@@ -77,14 +81,20 @@ impl<D: Disk> Disk for Quiet<D> {
     }
 
     fn read(&mut self, at: u64, buf: &mut [u8]) -> Result<(), Failed> {
+        self.calls = self.calls.saturating_add(1);
+        if self.misread == Some(at) {
+            return self.disk.read(at.saturating_sub(buf.len() as u64), buf);
+        }
         self.disk.read(at, buf)
     }
 
     fn write(&mut self, at: u64, bytes: &[u8]) -> Result<(), Failed> {
+        self.calls = self.calls.saturating_add(1);
         self.disk.write(at, bytes)
     }
 
     fn sync(&mut self) -> Result<(), Failed> {
+        self.calls = self.calls.saturating_add(1);
         self.disk.sync()
     }
 
@@ -93,21 +103,28 @@ impl<D: Disk> Disk for Quiet<D> {
     }
 }
 
+/// A disk that tells nothing, of which no call was made.
+fn new_quiet<D: Disk>(disk: D) -> Quiet<D>
+    ensures { result.disk ≡ disk }
+{
+    Quiet {
+        disk,
+        calls: 0,
+        misread: None,
+    }
+}
+
 /// A new disk for so many segments.
 fn new_disk(alloc: Global, segments: u16, pick: Pick) -> Result<TestDisk, Fail> {
     let bytes = vec![in alloc; 0u8; 4096 + 4096 * usize::from(segments)]?;
     let disk = MemDisk::new(alloc, bytes, pick, Vec::new(alloc));
-    Ok(Quiet {
-        disk: FuseDisk::without_fuse(disk),
-    })
+    Ok(new_quiet(FuseDisk::without_fuse(disk)))
 }
 
 /// The disk with a fuse that passes so many calls.
 fn fused(disk: TestDisk, passes: u64) -> TestDisk {
-    let Quiet { disk } = disk;
-    Quiet {
-        disk: FuseDisk::new(disk.into_inner(), passes),
-    }
+    let Quiet { disk, .. } = disk;
+    new_quiet(FuseDisk::new(disk.into_inner(), passes))
 }
 
 /// Opens the replica of a disk with so many segments.
@@ -369,8 +386,43 @@ fn records_are_packed_into_segments(rt: HostRuntime) -> Result<(), Fail> {
     Ok(())
 }
 
+/// What is asked of a disk whose token cell is worn, and of one whose token cell isn't: what is there can be read in both.
+const WORN: [(Step, Answer); 5] = [
+    (Step::Get(1), Answer::Blob(2)),
+    (Step::Put(2, 0), Answer::Full),
+    (Step::Delete(1), Answer::Full),
+    (Step::MergeGone(3), Answer::Full),
+    (Step::Get(1), Answer::Blob(2)),
+];
+
+const FRESH: [(Step, Answer); 3] = [
+    (Step::Get(1), Answer::Blob(2)),
+    (Step::Put(2, 0), Answer::Stored),
+    (Step::Get(2), Answer::Blob(0)),
+];
+
+/// A disk with one blob, whose token cell has an open slot with a sequence of this first byte and zeros.
+fn with_tokens(rt: &impl Abort, alloc: Global, first: u8) -> Result<TestDisk, Fail> {
+    let steps = [(Step::Put(1, 2), Answer::Stored)];
+    let mut disk = run(rt, alloc, new_disk(alloc, 3, Pick::Drop)?, 3, &steps, 1)?;
+    assert!(rt; disk.size() >= 4096);
+    disk.write(2048, &[0x4F, first])?;
+    disk.sync()?;
+    Ok(disk)
+}
+
+#[test]
+fn a_token_cell_is_worn_from_two_to_the_62_on(rt: HostRuntime) -> Result<(), Fail> {
+    let alloc = rt.alloc();
+    run(&rt, alloc, with_tokens(&rt, alloc, 0x40)?, 3, &WORN, 1)?;
+    run(&rt, alloc, with_tokens(&rt, alloc, 0x3F)?, 3, &FRESH, 2)?;
+    // A sequence of 2^63 closes the slot.
+    run(&rt, alloc, with_tokens(&rt, alloc, 0x80)?, 3, &FRESH, 2)?;
+    Ok(())
+}
+
 /// The device calls of an opening of a log without records.
-const OPENING: u64 = 3;
+const OPENING: u64 = 4;
 
 /// A put that is cut off, and what is asked then.
 const CUT: [(Step, Answer); 5] = [
@@ -439,6 +491,62 @@ fn a_cut_put_is_settled_by_the_opening(rt: HostRuntime) -> Result<(), Fail> {
     Ok(())
 }
 
+/// Asks, each of a replica that was opened anew, and how many calls of the disk each makes behind the opening.
+const CALLS: [(Step, Answer, u64); 7] = [
+    (Step::Put(1, 4000), Answer::Stored, 4),
+    (Step::Get(1), Answer::Blob(4000), 1),
+    (Step::Put(1, 4000), Answer::There, 1),
+    (Step::Peek(1), Answer::There, 0),
+    (Step::Get(2), Answer::Absent, 0),
+    (Step::Delete(1), Answer::Done, 4),
+    (Step::Get(1), Answer::Gone, 0),
+];
+
+/// Opens the replica of a disk, which answers these steps: the disk, and how many calls of it were made.
+fn run_counted(
+    rt: &impl Abort,
+    alloc: Global,
+    disk: TestDisk,
+    steps: &[(Step, Answer)],
+) -> Result<(TestDisk, u64), Fail> {
+    let before = disk.calls;
+    let mut replica = open(rt, alloc, disk, 2);
+    assert_steps(rt, alloc, &mut replica, steps)?;
+    let disk = replica.close();
+    let made = disk.calls.saturating_sub(before);
+    Ok((disk, made))
+}
+
+#[test]
+fn asks_make_few_calls(rt: HostRuntime) -> Result<(), Fail> {
+    let alloc = rt.alloc();
+    let mut disk = run(&rt, alloc, new_disk(alloc, 2, Pick::Drop)?, 2, &[], 0)?;
+    for (step, answer, calls) in CALLS {
+        let (opened, opening) = run_counted(&rt, alloc, disk, &[])?;
+        let (asked, made) = run_counted(&rt, alloc, opened, &[(step, answer)])?;
+        assert_eq!(rt; made, opening.saturating_add(calls), "{answer:?}");
+        disk = asked;
+    }
+    Ok(())
+}
+
+/// Two records of 50 bytes, of which the disk gives the first where the second is read.
+#[test]
+fn the_record_of_another_id_is_a_fault(rt: HostRuntime) -> Result<(), Fail> {
+    let alloc = rt.alloc();
+    let mut disk = new_disk(alloc, 2, Pick::Drop)?;
+    disk.misread = Some(4096 + 50);
+    let steps = [
+        (Step::Put(1, 5), Answer::Stored),
+        (Step::Put(2, 5), Answer::Stored),
+        (Step::Get(1), Answer::Blob(5)),
+        (Step::Get(2), Answer::Fault),
+        (Step::Get(1), Answer::Down),
+    ];
+    run(&rt, alloc, disk, 2, &steps, 2)?;
+    Ok(())
+}
+
 /// The record of an id: a put of a body of so many bytes, or a delete where there is none.
 fn record_of(alloc: Global, lsn: u64, number: u64, len: Option<u16>) -> Result<Record, Memory>
     requires { lsn < 2 ^ 63 }
@@ -486,7 +594,8 @@ fn an_opening_joins_records(rt: HostRuntime) -> Result<(), Fail> {
         index: 1000,
     };
     assert!(rt; disk.size() == 4096 + 2 * 4096);
-    let Ok((mut log, _)) = PartLog::open(alloc, disk, settings) else {
+    let mut none = Vec::new(alloc);
+    let Ok(mut log) = PartLog::open(alloc, disk, settings, &mut none) else {
         panic!(rt; "not opened")
     };
     for (number, len) in [

@@ -12,15 +12,15 @@ ghost use Rattle.part_log.specs.Records.{Placed, placed_at, records_of};
 ghost use Rattle.part_log.specs.Images.{PutsLast};
 ghost use Rattle.part_log.specs.Layout.{packed_with};
 ghost use Rattle.part_log.specs.Log.{AllVisible, IsLog, IsTable, is_full, layout_of, target_of};
-ghost use Rattle.replica_core.specs.Index.{spot_in, spot_set};
+ghost use Rattle.replica_core.specs.Index.{entry_at, entry_set};
 ghost use Rattle.replica_core.specs.Maps.{JoinsCell, MayCome, cell_of, with_joined};
 ghost use Rattle.replica_core.specs.State.{Writes, put_by};
 
-use crate::index::{Spot, reserve, restore, settle};
+use crate::index::{IndexEntry, kept_len, reserve, restore, settle};
 use crate::replica::Replica;
 use blob_id::{Blob, BlobId};
 use disk_core::Disk;
-use msg_format::Record;
+use msg_format::{Record, record_size};
 use part_log::{LogFault, PartLog};
 use std::alloc::Global;
 use std::collections::BTreeMap;
@@ -35,7 +35,7 @@ fn is_delete(entry: &Record) -> bool
 fn put_noted<D: Disk>(
     alloc: Global,
     log: &mut PartLog<D>,
-    index: &mut BTreeMap<BlobId, Spot>,
+    index: &mut BTreeMap<BlobId, IndexEntry>,
     id: BlobId,
     entry: &Record,
 ) -> Result<u64, LogFault>
@@ -49,7 +49,7 @@ fn put_noted<D: Disk>(
         → ChangesBy (PutsLast log.old.table.settings (target_of log.old.table (record_size entry.now)) (records_of placed) log.old.table.end entry.now) (D.content log.old.disk) (D.content log.new.disk) }
     ensures put { IfOk result (λ place. D.tells → (placed : List Placed) → IsLog log.old.table (D.content log.old.disk) placed
         → IsLog log.new.table (D.content log.new.disk) (placed ++ placed_at entry.now place ∷ [])) }
-    ensures noted { IfOk result (λ place. (other : List ℕ) → spot_in index.new.entries other ≡ spot_set (record { place = place; head = head_of entry.now (spelling_of entry.now) }) other (spot_in index.old.entries other)) }
+    ensures noted { IfOk result (λ place. (other : List ℕ) → entry_at index.new.entries other ≡ entry_set (record { place = place; head = head_of entry.now (spelling_of entry.now) }) other (entry_at index.old.entries other)) }
     ensures rests { OnErr result (index.new.entries ≡ index.old.entries) }
     ensures visible { D.tells → (placed : List Placed) → IsLog log.old.table (D.content log.old.disk) placed → AllVisible log.old.table.settings (D.content log.new.disk).seen placed }
     ensures good { OnOk result (IsTable log.new.table) }
@@ -68,11 +68,20 @@ fn put_noted<D: Disk>(
     ensures later { D.faults log.old.disk ≤ D.faults log.new.disk }
 {
     let gone = is_delete(entry);
+    let len = kept_len(record_size(entry));
     // Room for the note is made first, so that no record is put that can't be noted.
-    let before = reserve(index, id, Spot { place: 0, gone })?;
+    let before = reserve(
+        index,
+        id,
+        IndexEntry {
+            place: 0,
+            len,
+            gone,
+        },
+    )?;
     match log.append(alloc, entry) {
         Ok(place) => {
-            settle(index, id, Spot { place, gone });
+            settle(index, id, IndexEntry { place, len, gone });
             Ok(place)
         }
         Err(fault) => {
