@@ -1,13 +1,13 @@
 -- What an opening answers.
-use Rattle.std.proofs.Common.{◌≡◌, ◌≢◌, ◌⊎◌, inl, inr, ℕ, Bool, true, false, Option, Some, None, Result, Ok, Err, refl, sym, ◌∙◌, ap}
+use Rattle.std.proofs.Common.{◌≡◌, inl, ℕ, Bool, true, false, Option, Some, Result, Ok, Err, sym, ◌∙◌, ap}
 use Rattle.std.specs.Option.{unwrap_or}
 use Rattle.std.specs.Result.{IfOk, IfErr, IsErrOf}
-use Rattle.std.proofs.lemmas.Bool.{true≢false, false≢true}
+use Rattle.std.proofs.lemmas.Bool.{true≢false}
 use Rattle.disk_core.specs.declared.mem_disk.MemDisk.{MemDisk}
 use Rattle.disk_core.specs.declared.bays.BayFault.{BayFault}
 use Rattle.disk_core.specs.declared.bays.BayFault.TheVariants.{Failed, OtherSize, Memory}
 use Rattle.disk_core.specs.MemDisk.{content_of, size_of}
-use Rattle.disk_core.specs.Homes.{HasOtherSize, AnswersSize}
+use Rattle.disk_core.specs.Homes.{AnswersSize}
 use Rattle.disk_core.specs.Places.{IsOther}
 
 abbrev failed_then : Result MemDisk BayFault → Bool

@@ -1,11 +1,11 @@
 -- What places show, before and after a disk is taken out or put home.
-use Rattle.std.proofs.Common.{◌≡◌, ◌≢◌, ◌⊎◌, inl, inr, ⊎_elim, ℕ, zero, suc, ◌+◌, ◌<◌, ◌≤◌, Bool, true, false, cond, ◌&&◌, nat_eq, nat_lt, is_none, List, [], ◌∷◌, ◌++◌, length, get_or, set, Option, Some, None, Result, Ok, Err, refl, sym, ◌∙◌, ap, subst, arith}
+use Rattle.std.proofs.Common.{◌≡◌, ◌≢◌, ◌⊎◌, ⊎_elim, ℕ, zero, suc, ◌+◌, ◌<◌, ◌≤◌, Bool, true, false, cond, ◌&&◌, nat_eq, nat_lt, is_none, List, [], ◌∷◌, ◌++◌, length, get_or, set, Option, Some, None, Result, Ok, Err, refl, sym, ◌∙◌, ap, subst, arith}
 use Rattle.std.specs.List.{find, sum_by, position, position_or_len, slice_get}
 use Rattle.std.specs.Option.{option_or, unwrap_or, is_some, IsSome}
 use Rattle.std.specs.Result.{IfOk, IfErr}
 use Rattle.std.specs.Str.{bytes_eq}
 use Rattle.std.specs.String.{string_bytes}
-use Rattle.std.proofs.lemmas.Bool.{and_parts, and_from, and_left, and_right, cases_Bool, cond-true, cond-false, false≢true, eqb-true, eq-eqb, ltb-true, ltb-false, false_from_ne_true}
+use Rattle.std.proofs.lemmas.Bool.{and_parts, and_from, and_right, cases_Bool, cond-true, cond-false, false≢true, eqb-true, eq-eqb, ltb-true, ltb-false, false_from_ne_true}
 use Rattle.std.proofs.lemmas.Slice.Eq.{bytes_eq-Decides}
 use Rattle.std.proofs.lemmas.Option.{none-some, slice_get-get_or, slice_get_past, slice_get_cases}
 use Rattle.std.proofs.lemmas.List.{length-set, get_or-set_same, set-get_or}
@@ -16,7 +16,7 @@ use Rattle.disk_core.specs.declared.places.Place.{Place}
 use Rattle.disk_core.specs.declared.mem_disk.MemDisk.{MemDisk}
 use Rattle.disk_core.specs.Content.{Content, IsNewContent}
 use Rattle.disk_core.specs.MemDisk.{content_of, size_of}
-use Rattle.disk_core.specs.Homes.{SameContent, SameDisk, OthersStay, TakesOut, PutsHome}
+use Rattle.disk_core.specs.Homes.{SameContent, SameDisk, TakesOut, PutsHome}
 use Rattle.disk_core.specs.Places.{is_at, is_out, disk_at, folder_at, home_of, out_of, count_of, AreApart, OneIsOut, TakenFrom, KeepsOther}
 
 abbrev one_if : Bool → ℕ

@@ -1,5 +1,5 @@
 -- What bays over files show of themselves.
-use Rattle.std.specs.Prelude.{ℕ, List, Option, None}
+use Rattle.std.specs.Prelude.{ℕ, Option, None}
 use Rattle.disk_core.specs.declared.file_bays.FileBays.{FileBays}
 use Rattle.disk_core.specs.declared.file_disk.FileDisk.{FileDisk}
 use Rattle.disk_core.specs.declared.file_fault.FileFault.{FileFault}

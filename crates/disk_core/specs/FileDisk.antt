@@ -1,5 +1,5 @@
 -- What a disk in a file shows of itself.
-use Rattle.std.specs.Prelude.{◌≡◌, ℕ, Option, true}
+use Rattle.std.specs.Prelude.{ℕ, Option}
 use Rattle.disk_core.specs.declared.dirty_range.DirtyRange.{DirtyRange}
 use Rattle.disk_core.specs.declared.file_disk.FileDisk.{FileDisk}
 use Rattle.disk_core.specs.declared.file_fault.FileFault.{FileFault}

@@ -1,5 +1,5 @@
 -- What bays with a fuse show of themselves.
-use Rattle.std.specs.Prelude.{◌≡◌, ℕ, List, Bool, true, false, cond, not, ◌&&◌, nat_eq, Option, Some, None, Result, OnOk, OnErr}
+use Rattle.std.specs.Prelude.{◌≡◌, ℕ, Bool, true, false, cond, ◌&&◌, nat_eq, Option, Some, None, Result, OnOk, OnErr}
 use Rattle.disk_core.specs.declared.fuse_bays.FuseBays.{FuseBays}
 use Rattle.disk_core.specs.declared.fuse_disk.FuseDisk.{FuseDisk}
 use Rattle.disk_core.specs.declared.fuse_disk.Fuse.{Fuse}

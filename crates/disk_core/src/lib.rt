@@ -30,13 +30,14 @@
 //!
 //! # Tested
 //!
-//! What each pick leaves; a write that is listed to fail; that the write which blows a fuse reaches the disk below; each kind
-//! of bays once, files among them.
+//! What each pick leaves; a call that is listed to fail; that the write which blows a fuse reaches the disk below; that a disk of
+//! each kind of bays, files among them, is found again as it was put home.
 //!
-//! Over a file system in memory, which lists calls, fails them and loses at a power cut what wasn't synced: the calls of a
-//! write and a sync, in order; writes that take a part of their bytes; that partitions have files of their own; an
-//! error in each call of the first opening, and the opening behind the power cut; that what a failed sync forgot is written
-//! again, also behind `give_back` and `open`; an interrupted sync; a disk that is gone; a folder that another process holds.
+//! Over a file system in memory, which lists calls, fails them and loses at a power cut what wasn't synced: the calls of an
+//! opening, a write and a sync, in order; writes that take a part of their bytes; that each node and partition has a file of its
+//! own; an error in each call of the first opening, and the opening behind the power cut; that what a failed sync forgot is
+//! written again, also behind `give_back` and `open`; an interrupted sync; a disk that is gone; a folder that another process
+//! holds. By `tests/files.sh` and `tests/refusals.sh`: the program's calls of the real system.
 //!
 //! # Trusted
 //!

@@ -13,16 +13,16 @@ use std::os::unix::fs::FileExt;
 use std::rc::Rc;
 use std::rt::Files;
 
-/// Which calls fail, by their numbers from 1, and with which error of the system.
+/// The call that fails, by its number from 1, and with which error of the system. There is no call 0.
 #[derive(Clone, Copy)]
 pub struct Failing {
-    pub from: usize,
-    pub to: usize,
+    pub call: usize,
     pub error: i32,
 }
 
 #[derive(Drop)]
 struct Name {
+    // empty where the name is gone
     path: String,
     inode: usize,
     is_synced: bool,
@@ -85,25 +85,28 @@ impl State {
     // Lists a call, and fails it where it is to fail.
     fn call(&mut self, line: String) -> io::Result<()> {
         self.calls.push(line)?;
-        let number = self.calls.len();
-        if self.failing.from <= number && number <= self.failing.to {
+        if self.calls.len() == self.failing.call {
             return Err(io::Error::from_raw_os_error(self.failing.error));
         }
         Ok(())
     }
 
     fn find(&self, path: &str) -> io::Result<usize> {
-        match self.names.iter().find(|name| name.path.as_str() == path) {
-            Some(name) => Ok(name.inode),
-            None => Err(io::Error::from(ErrorKind::NotFound)),
+        for name in self.names.iter() {
+            if name.path.as_str() == path {
+                return Ok(name.inode);
+            }
         }
+        Err(io::Error::from(ErrorKind::NotFound))
     }
 
     fn path_of(&self, inode: usize) -> &str {
-        match self.names.iter().find(|name| name.inode == inode) {
-            Some(name) => name.path.as_str(),
-            None => "nameless",
+        for name in self.names.iter() {
+            if name.inode == inode && !name.path.is_empty() {
+                return name.path.as_str();
+            }
         }
+        "nameless"
     }
 
     fn inode(&mut self, inode: usize) -> io::Result<&mut Inode> {
@@ -126,16 +129,40 @@ impl State {
         Ok(inode)
     }
 
-    // Names a file in the place of the one of that name.
+    // Names a file, whose name isn't synced.
     fn name(&mut self, path: &str, inode: usize) -> io::Result<()> {
-        let text = path.to_string(self.alloc)?;
-        self.names
-            .retain(|name| name.path.as_str() != path && name.inode != inode);
         self.names.push(Name {
-            path: text,
+            path: path.to_string(self.alloc)?,
             inode,
             is_synced: false,
         })?;
+        Ok(())
+    }
+
+    // Takes a name away, where it is there.
+    fn unname(&mut self, path: &str) {
+        for name in self.names.iter_mut() {
+            if name.path.as_str() == path {
+                name.path.clear();
+            }
+        }
+    }
+
+    // Takes the names away that aren't synced.
+    fn forget_names(&mut self) {
+        for name in self.names.iter_mut() {
+            if !name.is_synced {
+                name.path.clear();
+            }
+        }
+    }
+
+    // Leaves the bytes that are stable.
+    fn forget_bytes(&mut self) -> io::Result<()> {
+        for inode in self.inodes.iter_mut() {
+            inode.seen = inode.stable.clone()?;
+            inode.unsynced.clear();
+        }
         Ok(())
     }
 
@@ -149,6 +176,11 @@ impl State {
         }
         self.inode(inode)?.sync()
     }
+}
+
+// How a call is listed.
+fn line_of(alloc: Global, name: &str, path: &str) -> io::Result<String> {
+    Ok(format!(in alloc; "{name} {path}")?)
 }
 
 // The folder that a name lies in.
@@ -209,7 +241,15 @@ impl Host {
         })
     }
 
-    /// From now on these calls fail, counted from here.
+    /// The same file system, for another owner.
+    pub fn share(&self) -> io::Result<Host> {
+        Ok(Host {
+            alloc: self.alloc,
+            state: self.state.clone()?,
+        })
+    }
+
+    /// From now on this call fails, counted from here.
     pub fn set_failing(&self, failing: Failing) -> io::Result<()> {
         let mut state = state_in(&self.state)?;
         state.calls.clear();
@@ -224,6 +264,14 @@ impl Host {
         Ok(std::mem::replace(&mut state.calls, none))
     }
 
+    /// The last one of these calls, which is then none of them any more.
+    pub fn take_last_call(&self) -> io::Result<String> {
+        match state_in(&self.state)?.calls.pop() {
+            Some(line) => Ok(line),
+            None => Err(io::Error::from(ErrorKind::NotFound)),
+        }
+    }
+
     /// Another process holds each folder, or none does.
     pub fn set_held(&self, is_held: bool) -> io::Result<()> {
         state_in(&self.state)?.is_held = is_held;
@@ -233,12 +281,8 @@ impl Host {
     /// The power is cut: what was synced is left.
     pub fn cut_power(&self) -> io::Result<()> {
         let mut state = state_in(&self.state)?;
-        state.names.retain(|name| name.is_synced);
-        for inode in state.inodes.iter_mut() {
-            inode.seen = inode.stable.clone()?;
-            inode.unsynced.clear();
-        }
-        Ok(())
+        state.forget_names();
+        state.forget_bytes()
     }
 }
 
@@ -246,7 +290,7 @@ impl HostFile {
     // Lists a call on this file, and fails it where it is to fail.
     fn call(&self, name: &str) -> io::Result<RefMut<'_, State>> {
         let mut state = state_in(&self.state)?;
-        let line = format!(in self.alloc; "{name} {}", state.path_of(self.inode))?;
+        let line = line_of(self.alloc, name, state.path_of(self.inode))?;
         state.call(line)?;
         Ok(state)
     }
@@ -344,8 +388,8 @@ impl Seek for HostFile {
 impl Host {
     // Lists a call on a path, and fails it where it is to fail.
     fn call(&self, name: &str, path: &str) -> io::Result<RefMut<'_, State>> {
+        let line = line_of(self.alloc, name, path)?;
         let mut state = state_in(&self.state)?;
-        let line = format!(in self.alloc; "{name} {path}")?;
         state.call(line)?;
         Ok(state)
     }
@@ -385,13 +429,15 @@ impl Files for Host {
     fn rename(&self, from: &str, to: &str) -> io::Result<()> {
         let mut state = self.call("rename", to)?;
         let inode = state.find(from)?;
+        state.unname(from);
+        state.unname(to);
         state.name(to, inode)
     }
 
     fn remove_file(&self, path: &str) -> io::Result<()> {
         let mut state = self.call("unlink", path)?;
         state.find(path)?;
-        state.names.retain(|name| name.path.as_str() != path);
+        state.unname(path);
         Ok(())
     }
 

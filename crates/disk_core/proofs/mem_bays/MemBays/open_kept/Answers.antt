@@ -1,4 +1,4 @@
-use Rattle.std.proofs.Common.{◌≡◌, ◌∙◌, ap, sym, refl}
+use Rattle.std.proofs.Common.{◌∙◌, ap, sym}
 use Rattle.disk_core.specs.declared.bays.BayFault.TheVariants.{OtherSize}
 use Rattle.disk_core.specs.Places.{is_at, disk_at}
 use Rattle.disk_core.proofs.Placing.{has_disk, asked_apart, asked_one, took, holds, found_here, same_places}

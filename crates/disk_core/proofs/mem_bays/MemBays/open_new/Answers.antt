@@ -1,7 +1,6 @@
-use Rattle.std.proofs.Common.{◌≡◌, ◌∙◌, ◌++◌, ◌∷◌, [], List, ap, subst, sym}
+use Rattle.std.proofs.Common.{List, subst, sym}
 use Rattle.std.specs.Result.{is_ok}
 use Rattle.disk_core.specs.declared.places.Place.{Place}
-use Rattle.disk_core.specs.Content.{IsNewContent}
 use Rattle.disk_core.specs.Homes.{TakesOut}
 use Rattle.disk_core.specs.MemDisk.{content_of, size_of}
 use Rattle.disk_core.specs.Places.{AreApart, OneIsOut, home_of, out_of}

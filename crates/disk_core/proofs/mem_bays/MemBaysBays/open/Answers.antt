@@ -1,5 +1,5 @@
-use Rattle.std.proofs.Common.{◌≡◌, ◌∙◌, inr, ⊎_elim, Bool, List, Option, Some, None, ℕ, ap, subst, sym, refl}
-use Rattle.std.specs.List.{find, position, Contains}
+use Rattle.std.proofs.Common.{◌≡◌, ◌∙◌, inr, ⊎_elim, Bool, List, Option, None, ℕ, ap, subst, sym, refl}
+use Rattle.std.specs.List.{position, Contains}
 use Rattle.std.specs.Option.{is_some, IsSome}
 use Rattle.std.proofs.lemmas.Bool.{both_ways}
 use Rattle.std.proofs.lemmas.Option.{none-some}
