@@ -1,8 +1,12 @@
 //! Whole runs, by the top call.
 
+ghost use Rattle.std.specs.Prelude.{IfOk};
+ghost use Rattle.msg_format.specs.Records.{IsRecord};
+
 use super::*;
-use blob_id::Words;
-use disk_core::{Bays, Disk, FileBays, FuseBays, MemBays, Pick};
+use blob_id::{Blob, BlobId, Bytes, Kind, Memory, Words};
+use disk_core::{Bays, Disk, FileBays, FuseBays, MemBays, Pick, write_synced};
+use msg_format::{Record, encode};
 use outside::{BytesSink, BytesSource, CountRandom, FailRandom, Random};
 use std::alloc::Global;
 use std::fs;
@@ -567,7 +571,7 @@ fn fused_bays(alloc: Global, passes: u64) -> FuseBays {
 #[test]
 fn a_disk_that_fails_is_down_until_it_is_opened_again(rt: HostRuntime) -> Result<(), Fail> {
     let alloc = rt.alloc();
-    let mut bays = fused_bays(alloc, 10);
+    let mut bays = fused_bays(alloc, 11);
     let script = b"put a hex 61\nput b hex 62\nwait\nstop 1\nrestart 1\nput c hex 63\nwait\n";
     let words = ["run", "--nodes=1", "--partitions=1"];
     let (status, output) = run_over(alloc, &words, script, &mut bays, Vec::new(alloc))?;
@@ -575,5 +579,98 @@ fn a_disk_that_fails_is_down_until_it_is_opened_again(rt: HostRuntime) -> Result
     let rest =
         b"a unavailable 0100000000000000000040008000000000000000 1:fault\nb begun\nb drew 0100000000000000000040008000000000000001\nb unavailable 0100000000000000000040008000000000000001 1:down\nstop 1 ok\nrestart 1 ok\nc begun\nc drew 0100000000000000000040008000000000000002\nc ok 0100000000000000000040008000000000000002\n";
     assert!(rt; is_begun_and(output.bytes(), rest));
+    Ok(())
+}
+
+/// The record of an id: a put of this body, or a delete where there is none.
+fn record_of(alloc: Global, lsn: u32, number: u64, body: Option<&[u8]>) -> Result<Record, Memory>
+    ensures { IfOk result (λ entry. IsRecord entry) }
+{
+    let lsn = u64::from(lsn);
+    let id = BlobId::draw(Kind::Simple, 0, 0, number);
+    match body {
+        Some(body) => {
+            let blob = Blob {
+                created: 5,
+                ctype: Bytes::new(alloc),
+                meta: Bytes::new(alloc),
+                body: Bytes::from_vec(body.to_vec(alloc)?),
+            };
+            Ok(Record::Put { lsn, id, blob })
+        }
+        None => Ok(Record::Delete {
+            lsn,
+            id,
+            created: 5,
+        }),
+    }
+}
+
+/// Writes a record at a place of a disk, and gives the place behind it.
+fn write_record<D: Disk>(
+    rt: &impl Abort,
+    alloc: Global,
+    disk: &mut D,
+    at: u64,
+    entry: &Record,
+) -> Result<u64, Fail>
+    requires { IsRecord entry.now }
+{
+    let bytes = encode(alloc, entry)?;
+    let len = bytes.len() as u64;
+    assert!(rt; at <= disk.size() && disk.size() - at >= len);
+    assert_eq!(rt; write_synced(disk, at, bytes.as_slice()), Ok(()));
+    Ok(at + len)
+}
+
+/// Writes the records of these ids, one behind the other, to the new log of node 1 and partition 0.
+fn write_records<B: Bays>(
+    rt: &impl Abort,
+    alloc: Global,
+    bays: &mut B,
+    records: &[(u64, Option<&[u8]>)],
+) -> Result<(), Fail>
+where
+    B::Disk: Drop,
+{
+    let Ok(mut disk) = bays.open("ambry-data", 1, 0, 4096 + 2 * 66_736) else {
+        panic!(rt; "no disk")
+    };
+    let mut at = 4096;
+    let mut lsn = 0;
+    for (number, body) in records.iter() {
+        let entry = record_of(alloc, lsn, *number, *body)?;
+        at = write_record(rt, alloc, &mut disk, at, &entry)?;
+        lsn = lsn.wrapping_add(1);
+    }
+    bays.give_back(1, 0, disk);
+    Ok(())
+}
+
+/// Of a log that no replica wrote, where a put stands behind the delete of its id and another put behind the first one of its
+/// id, gets give the join: the one id is deleted, and the other has the first blob.
+#[test]
+fn a_log_of_any_records_is_joined(rt: HostRuntime) -> Result<(), Fail> {
+    let alloc = rt.alloc();
+    let mut bays = new_bays(alloc, Vec::new(alloc));
+    let words = ["run", "--nodes=1", "--partitions=1", "--segments=2"];
+    let (status, _) = run_over(alloc, &words, b"", &mut bays, Vec::new(alloc))?;
+    assert_eq!(rt; status, 0);
+    let records: [(u64, Option<&[u8]>); 5] = [
+        (0, Some(b"once")),
+        (0, None),
+        (0, Some(b"again")),
+        (1, Some(b"first")),
+        (1, Some(b"second")),
+    ];
+    write_records(&rt, alloc, &mut bays, &records)?;
+    let script =
+        b"get a 0100000000000000000040008000000000000000\nget b 0100000000000000000040008000000000000001\n";
+    let (status, output) = run_over(alloc, &words, script, &mut bays, Vec::new(alloc))?;
+    assert_eq!(rt; status, 0);
+    assert_eq!(rt;
+        output.bytes(),
+        b"a begun\na deleted\nb begun\nb ok 5 6669727374\n".as_slice()
+    );
     Ok(())
 }
