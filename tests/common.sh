@@ -47,12 +47,17 @@ trace_over() {
   calls_of trace > calls
 }
 
-# Runs a function of checks if `strace` is there, and else counts what it would have checked.
+# Counts what a function of checks would have checked.
+skip() {
+  skipped=$((skipped + $(declare -f "$1" | grep -c ' check "')))
+}
+
+# Runs a function of checks if `strace` is there.
 with_trace() {
   if strace -o trace true 2> /dev/null; then
     "$1"
   else
-    skipped=$((skipped + $(declare -f "$1" | grep -c ' check "')))
+    skip "$1"
   fi
 }
 

@@ -46,7 +46,8 @@ with_trace check_calls
 
 # A device without room for a new disk: nothing has the disk's name, and the folder serves once there is room.
 puts_of 1000 a > script
-check "a new disk that doesn't fit is status 5" ends 5 small 100
+check "a new disk that doesn't fit is status 5" ends 5 small 100 2> why
+check "standard error says why" has why room
 check "nothing is told then" test ! -s transcript
 check "no shorter disk is left" test ! -e small/n1p0
 check "the folder serves once there is room" ends 0 small

@@ -65,8 +65,7 @@ for cut in 1 5 20 60; do
     [ "$(puts_in cut.transcript | wc -l)" -ge "$cut" ] || ! kill -0 "$program" 2> /dev/null && break
     sleep 0.01
   done
-  kill -9 "$program"
-  wait "$program" 2> /dev/null
+  { kill -9 "$program" && wait "$program"; } 2> /dev/null
   program=""
   exec 3>&-
   rm lines

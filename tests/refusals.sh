@@ -1,6 +1,7 @@
 #!/usr/bin/env bash
-# Folders and disks that the built program refuses or fails at: status 5 says so, and one line on standard error why. A limit on the
-# size of files stands for a device without room, and the program runs as nobody where files may not be written.
+# Folders and disks that the built program refuses or fails at: status 5 says so, and one line on standard error why. A device without
+# room is one of 1 MB in memory where that can be mounted, and else a limit on the size of files stands for it. The program runs as nobody
+# where files may not be written.
 . "$(dirname "$0")/common.sh"
 chmod 711 "$work"
 
@@ -60,6 +61,15 @@ check_permission() {
   check "disks that may not be written stay as they are" diff -r closed closed.before
 }
 
+# A device of 1 MB that another file fills.
+check_full_device() {
+  cat /dev/zero > device/filler 2> /dev/null
+  check "a device without room is refused" is_refused room run_over device/disks
+  check "nothing is left of a disk that the device has no room for" test -z "$(ls device/disks | grep n1p0)"
+  rm device/filler
+  check "the folder serves once the device has room" ends 0 device/disks
+}
+
 check_names() {
   trace_over up/down
   check "the name of a folder that was made is synced" is_between '^folder up/down$' '^sync up$' '^say a ok'
@@ -80,8 +90,7 @@ sed -n -E 's/^([ab]) ok (.*)/get \1 \2/p' first.transcript > script
 check "a run behind it ends well" ends 0 shared
 check "a run behind it gets what was put" test "$(grep -c ' ok 2 0000$' transcript)" = 2
 check "a run serves" begin killed
-kill -9 "$program"
-wait "$program" 2> /dev/null
+{ kill -9 "$program" && wait "$program"; } 2> /dev/null
 exec 3>&-
 puts_of 2 a > script
 check "a run that was killed leaves the folder free" ends 0 killed
@@ -99,13 +108,20 @@ check "it isn't made anew" test ! -e gone/n1p0
 # A device without room for a new disk.
 check "no room for a new disk is refused" is_refused room run_over small 100
 check "nothing is left of a disk that didn't fit" test -z "$(ls small | grep n1p0)"
+mkdir device
+if mount -t tmpfs -o size=1m tmpfs device 2> /dev/null; then
+  trap 'umount "$work/device"; rm -rf "$work"' EXIT
+  check_full_device
+else
+  skip check_full_device
+fi
 
 # As root, all may be written, so another one is needed.
 cp "$top/crates/ambry_lab/out/ambry_lab" program
 if [ "$(id -u)" != 0 ] || setpriv --reuid=65534 --regid=65534 --clear-groups true 2> /dev/null; then
   check_permission
 else
-  skipped=$((skipped + 3))
+  skip check_permission
 fi
 with_trace check_names
 
