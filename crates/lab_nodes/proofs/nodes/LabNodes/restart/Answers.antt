@@ -99,3 +99,6 @@ returns-in-Some-clause-out g c = λ t before.
 
 pub returns-in-Some-clause-refused : goal.returns-in-Some-clause-refused
 returns-in-Some-clause-refused g c = λ refusal is. refused_node c.in-Some.shape c.args.node refusal (c.start.ensures.refused_place refusal is)
+
+pub returns-in-Some-clause-failed : goal.returns-in-Some-clause-failed
+returns-in-Some-clause-failed g c = rw (← c.self.view_is) c.start.ensures.failed
