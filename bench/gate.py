@@ -161,7 +161,7 @@ class Watch:
         program = Path(words[0]).name
         if program == "rattle-link":
             name = Path(folder).name
-        elif program == "rattle" and words[1] in ("check", "build"):
+        elif program == "rattle" and words[1] in ("check", "build") and "--crate-name" in words:
             name = words[words.index("--crate-name") + 1]
         else:
             # A check begins as a copy of rt itself, which Python runs.
