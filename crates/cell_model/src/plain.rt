@@ -154,7 +154,7 @@ fn is_same(one: &Blob, other: &Blob) -> bool
 }
 
 impl ReplicaPort for PlainReplica {
-    ghost use Rattle.std.specs.Prelude.{false};
+    ghost use Rattle.std.specs.Prelude.{[], false};
     ghost use Rattle.cell_model.specs.Asks.{AsksInRange, CanAnswer};
     ghost use Rattle.cell_model.specs.Plain.{plain_told, AllHoldBlobs, PlainAnswers};
 
@@ -164,9 +164,13 @@ impl ReplicaPort for PlainReplica {
 
     ghost told = { plain_told };
 
+    ghost fixed = { λ _. [] };
+
     ghost faults = { λ _. 0 };
 
     ghost ready = { AllHoldBlobs };
+
+    ghost asks = { λ _ ask reply _. PlainAnswers ask reply };
 
     fn ask(&mut self, ask: Ask) -> Reply
         requires ready { AllHoldBlobs self.old }
@@ -176,8 +180,8 @@ impl ReplicaPort for PlainReplica {
         ensures range { AnswersInRange result }
         ensures ready { AllHoldBlobs self.new }
         ensures willing { Refuses result → ⊥ }
-        // What the port doesn't say: that there is no log.
-        ensures plain { PlainAnswers ask result }
+        // There is no log.
+        ensures own { PlainAnswers ask result }
     {
         match ask {
             Ask::Put { id, blob } => self.put(id, blob),

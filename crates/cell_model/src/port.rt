@@ -1,8 +1,10 @@
 //! A replica, by what it answers.
 
-ghost use Rattle.std.specs.Prelude.{ℕ, ◌≡◌, ◌≢◌, ◌≤◌, Bool, true};
+ghost use Rattle.std.specs.Prelude.{ℕ, ◌≡◌, ◌≢◌, ◌≤◌, Bool, true, List};
 ghost use Rattle.outside.specs.Causes.{Rose};
 ghost use Rattle.cell_model.specs.Told.{Told};
+ghost use Rattle.cell_model.specs.declared.ask.Ask.{Ask};
+ghost use Rattle.cell_model.specs.declared.ask.Reply.{Reply};
 ghost use Rattle.cell_model.specs.Asks.{IsStep, CanAnswer, Refuses, AsksInRange, AnswersInRange};
 
 use crate::ask::{Ask, Reply};
@@ -18,11 +20,17 @@ pub trait ReplicaPort {
     /// What it tells.
     ghost told: { Self → Told };
 
+    /// Numbers that no ask changes, whether it tells or not: the settings and the size of a disk, for example.
+    ghost fixed: { Self → List ℕ };
+
     /// How often its device has failed.
     ghost faults: { Self → ℕ };
 
     /// What it needs to be asked, and keeps: that a function which it was given may be called, for example.
     ghost ready: { Self → Type 0 };
+
+    /// What one ask and its reply make of it, by a relation of its own: what the ask does to a disk, for example.
+    ghost asks: { Self → Ask → Reply → Self → Type 0 };
 
     /// One ask and its reply.
     fn ask(&mut self, ask: Ask) -> Reply
@@ -35,5 +43,7 @@ pub trait ReplicaPort {
         ensures refusal { Refuses result → may_refuse ≡ true }
         ensures fault { result ≡ Reply.Fault → Rose (faults self.old) (faults self.new) }
         ensures later { faults self.old ≤ faults self.new }
-        ensures calm { result ≢ Reply.Fault → faults self.new ≡ faults self.old };
+        ensures calm { result ≢ Reply.Fault → faults self.new ≡ faults self.old }
+        ensures kept { fixed self.new ≡ fixed self.old }
+        ensures own { asks self.old ask result self.new };
 }

@@ -28,9 +28,9 @@ pub record ArePorts {P : Type 0} (ready : P → Type 0) (ports : List (ℕ × P)
   pub named : All (λ p. p < 2 ^ 16) (keys_of ports)
   pub each : All ready (values_of ports)
 
--- One ask of a port and its reply, by all that ports of its type promise: whether they tell, whether they may refuse, what they tell and their
--- counts of faults.
-pub record IsAsked {P : Type 0} (tells : Type 0) (refuses : Bool) (told : P → Told) (faults : P → ℕ) (old : P) (ask : Ask) (reply : Reply) (new : P) : Type 0 where
+-- One ask of a port and its reply, by all that ports of its type promise: whether they tell, whether they may refuse, what they tell, what of
+-- them is fixed, their counts of faults, and their own relation.
+pub record IsAsked {P : Type 0} (tells : Type 0) (refuses : Bool) (told : P → Told) (fixed : P → List ℕ) (faults : P → ℕ) (asks : P → Ask → Reply → P → Type 0) (old : P) (ask : Ask) (reply : Reply) (new : P) : Type 0 where
   pub kind : CanAnswer ask reply
   pub step : tells → IsStep (told old) ask reply (told new)
   pub range : AnswersInRange reply
@@ -38,3 +38,5 @@ pub record IsAsked {P : Type 0} (tells : Type 0) (refuses : Bool) (told : P → 
   pub fault : reply ≡ Reply.Fault → Rose (faults old) (faults new)
   pub later : faults old ≤ faults new
   pub calm : reply ≢ Reply.Fault → faults new ≡ faults old
+  pub kept : fixed new ≡ fixed old
+  pub own : asks old ask reply new

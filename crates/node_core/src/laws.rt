@@ -25,10 +25,10 @@ pub fn requests_are_spelled()
 
 /// A node answers `NoPartition` exactly where it has no port of the partition.
 pub fn no_partition_is_no_port<P: ReplicaPort>()
-    ensures { (old new : Node P) (partition : ℕ) (ask : Ask) (reply : Reply) → NodeAsked (IsAsked P.tells P.may_refuse P.told P.faults) old partition ask reply new → (reply ≡ Reply.NoPartition) ↔ (port_in old.ports partition ≡ None) }
+    ensures { (old new : Node P) (partition : ℕ) (ask : Ask) (reply : Reply) → NodeAsked (IsAsked P.tells P.may_refuse P.told P.fixed P.faults P.asks) old partition ask reply new → (reply ≡ Reply.NoPartition) ↔ (port_in old.ports partition ≡ None) }
 {}
 
 /// An ask leaves the ports of all other partitions.
 pub fn other_ports_stay<P: ReplicaPort>()
-    ensures { (old new : Node P) (partition other : ℕ) (ask : Ask) (reply : Reply) → NodeAsked (IsAsked P.tells P.may_refuse P.told P.faults) old partition ask reply new → other ≢ partition → port_in new.ports other ≡ port_in old.ports other }
+    ensures { (old new : Node P) (partition other : ℕ) (ask : Ask) (reply : Reply) → NodeAsked (IsAsked P.tells P.may_refuse P.told P.fixed P.faults P.asks) old partition ask reply new → other ≢ partition → port_in new.ports other ≡ port_in old.ports other }
 {}

@@ -4,7 +4,7 @@ ghost use Rattle.std.specs.Prelude.{◌≡◌, nat_eq, IfOk, IfErr, IfSome, OnEr
 ghost use Rattle.std.specs.List.{IsDistinct};
 ghost use Rattle.std.specs.Map.{keys_of};
 ghost use Rattle.std.specs.Option.{option_copied};
-ghost use Rattle.cell_model.specs.Asks.{AsksInRange};
+ghost use Rattle.cell_model.specs.Asks.{AnswersInRange, AsksInRange};
 ghost use Rattle.node_core.specs.Nodes.{Handles, IsIndex, LosesReply, NodeAsked};
 ghost use Rattle.node_core.specs.Ports.{ArePorts, IsAsked, place_in, port_in};
 ghost use Rattle.node_core.specs.Requests.{request_in, IsRequested};
@@ -96,13 +96,16 @@ impl<P: ReplicaPort> NodeCore<P> {
         }
     }
 
-    /// Asks the port of a partition.
-    fn ask(&mut self, partition: u32, ask: Ask) -> Reply
+    /// Asks the port of a partition, and answers what it says. `NoPartition` comes exactly where the node has none, and
+    /// nothing is done then.
+    ///
+    /// No memory is taken behind the ask, so its reply can't be lost here.
+    pub fn ask(&mut self, partition: u32, ask: Ask) -> Reply
         requires range { AsksInRange ask }
-        requires requested { IsRequested ask }
-        ensures asked { NodeAsked (IsAsked P.tells P.may_refuse P.told P.faults) self.old partition ask result self.new }
-        // What it answers has a frame.
-        ensures spelled { IsReply result }
+        ensures asked { NodeAsked (IsAsked P.tells P.may_refuse P.told P.fixed P.faults P.asks) self.old partition ask result self.new }
+        ensures range { AnswersInRange result }
+        // What it answers to the ask of a frame has a frame.
+        ensures spelled { IsRequested ask → IsReply result }
     {
         match self.place_of(partition) {
             Some(place) => self.ports[place].1.ask(ask),
@@ -115,8 +118,8 @@ impl<P: ReplicaPort> NodeCore<P> {
     ///
     /// `Memory` leaves the node as it was, or behind the one ask whose reply is lost, as a network loses replies.
     pub fn on_frame(&mut self, bytes: &[u8]) -> Result<Option<Bytes>, Memory>
-        ensures ok { IfOk result (λ reply. Handles (IsAsked P.tells P.may_refuse P.told P.faults) (request_in bytes.now) self.old reply self.new) }
-        ensures err { OnErr result (LosesReply (IsAsked P.tells P.may_refuse P.told P.faults) (request_in bytes.now) self.old self.new) }
+        ensures ok { IfOk result (λ reply. Handles (IsAsked P.tells P.may_refuse P.told P.fixed P.faults P.asks) (request_in bytes.now) self.old reply self.new) }
+        ensures err { OnErr result (LosesReply (IsAsked P.tells P.may_refuse P.told P.fixed P.faults P.asks) (request_in bytes.now) self.old self.new) }
     {
         let Some((correlation, partition, ask)) = read_request(self.alloc, bytes)? else {
             return Ok(None);

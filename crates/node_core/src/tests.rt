@@ -166,7 +166,7 @@ enum Refusal {
 }
 
 impl ReplicaPort for RefusingPort {
-    ghost use Rattle.std.specs.Prelude.{[], true, false};
+    ghost use Rattle.std.specs.Prelude.{◌≡◌, [], true, false};
 
     ghost tells = { ⊥ };
 
@@ -174,9 +174,13 @@ impl ReplicaPort for RefusingPort {
 
     ghost told = { λ _. record { cells = []; tokens = []; planned = false; idle = true } };
 
+    ghost fixed = { λ _. [] };
+
     ghost faults = { λ port. port.faults };
 
     ghost ready = { λ _. Unit {0} };
+
+    ghost asks = { λ old _ _ new. new.refusal ≡ old.refusal };
 
     fn ask(&mut self, ask: Ask) -> Reply {
         self.asked = self.asked.saturating_add(1);

@@ -3,7 +3,7 @@
 ghost use Rattle.std.specs.Prelude.{◌≡◌, ◌≢◌, ◌≤◌, true};
 ghost use Rattle.outside.specs.Causes.{Rose};
 ghost use Rattle.cell_model.specs.Asks.{AnswersInRange, AsksInRange, CanAnswer, IsStep, Refuses};
-ghost use Rattle.replica_core.specs.State.{IsAsked, faults_of, told_of};
+ghost use Rattle.replica_core.specs.State.{IsAsked, faults_of, fixed_of, told_of};
 
 use crate::replica::Replica;
 use cell_model::{Ask, ReplicaPort, Reply};
@@ -16,9 +16,13 @@ impl<D: Disk> ReplicaPort for Replica<D> {
 
     ghost told = { told_of };
 
+    ghost fixed = { fixed_of D.size };
+
     ghost faults = { faults_of };
 
     ghost ready = { λ _. Unit {0} };
+
+    ghost asks = { IsAsked D.tells D.content D.size D.faults };
 
     fn ask(&mut self, ask: Ask) -> Reply
         requires range { AsksInRange ask }
@@ -29,8 +33,9 @@ impl<D: Disk> ReplicaPort for Replica<D> {
         ensures fault { result ≡ Reply.Fault → Rose (faults_of self.old) (faults_of self.new) }
         ensures later { faults_of self.old ≤ faults_of self.new }
         ensures calm { result ≢ Reply.Fault → faults_of self.new ≡ faults_of self.old }
-        // What the port doesn't say: what the ask does to the disk.
-        ensures asked { IsAsked D.tells D.content D.size D.faults self.old ask result self.new }
+        ensures kept { fixed_of D.size self.new ≡ fixed_of D.size self.old }
+        // What the ask does to the cells and to the disk.
+        ensures own { IsAsked D.tells D.content D.size D.faults self.old ask result self.new }
     {
         match ask {
             Ask::Put { id, blob } => self.put(id, blob),

@@ -41,10 +41,10 @@ returns-in-Some-clause-asked g c =
     let same = at.set c.index_mut.result.now c.ask.new.self c.index_mut.ensures.value in
     let found = at.found c.index_mut.result.now c.index_mut.ensures.value in
     asked_there _ c.args.self.now c.self.inside.node ports p c.args.ask c.ask.result c.index_mut.result.now.1 c.ask.new.self _ c.self.view_is found same
-    (record { kind = c.ask.ensures.kind; step = c.ask.ensures.step; range = c.ask.ensures.range; refusal = c.ask.ensures.refusal; fault = c.ask.ensures.fault; later = c.ask.ensures.later; calm = c.ask.ensures.calm })
+    (record { kind = c.ask.ensures.kind; step = c.ask.ensures.step; range = c.ask.ensures.range; refusal = c.ask.ensures.refusal; fault = c.ask.ensures.fault; later = c.ask.ensures.later; calm = c.ask.ensures.calm; kept = c.ask.ensures.kept; own = c.ask.ensures.own })
 
 pub returns-in-None-clause-asked : goal.returns-in-None-clause-asked
 returns-in-None-clause-asked g c = asked_nowhere _ c.args.self.now c.args.partition c.args.ask (stands_nowhere c.args.self.now.ports c.args.partition (sym c.place_of.ensures ∙ c.in-None.is))
 
 pub returns-in-Some-clause-spelled : goal.returns-in-Some-clause-spelled
-returns-in-Some-clause-spelled g c = reply_spelled c.args.ask c.ask.result c.requires.requested c.ask.ensures.kind c.ask.ensures.range
+returns-in-Some-clause-spelled g c = λ requested. reply_spelled c.args.ask c.ask.result requested c.ask.ensures.kind c.ask.ensures.range
