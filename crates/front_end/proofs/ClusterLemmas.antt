@@ -12,7 +12,7 @@ use Rattle.world_model.specs.declared.moves.Move.{Move}
 use Rattle.world_model.specs.declared.order.Refusal.{Refusal}
 use Rattle.world_model.specs.declared.shape.Shape.{Shape}
 use Rattle.world_model.specs.declared.step.Called.{Called}
-use Rattle.world_model.specs.Fabric.{DidNothing, Tells}
+use Rattle.world_model.specs.Fabric.{IsOpening, Tells}
 use Rattle.world_model.specs.Record.{Record}
 use Rattle.world_model.specs.Told.{told}
 use Rattle.world_model.specs.World.{Cells, Run}
@@ -24,9 +24,9 @@ use Rattle.front_end.specs.Session.{ties_of}
 use Rattle.front_end.proofs.RecordLemmas.{RunsAreSafe, recorded, finished_map, stopped_map, cut_map}
 
 -- A network that told no call, and then the one of its opening, ties a router to nothing.
-pub opened_tie : (router : RouterView) (before now : Option (List Called)) → before ≡ Some [] → Tells before now DidNothing → Stands router [] → ties_of router now []
+pub opened_tie : (router : RouterView) (before now : Option (List Called)) → before ≡ Some [] → Tells before now IsOpening → Stands router [] → ties_of router now []
 opened_tie router before now none opened stands =
-    tie_call (Stands router) (Stands router) DidNothing before now [] opened (λ call did r so. subst (Stands router) (sym (ap (λ (l : Record). l ++ r) (items_none call did))) so)
+    tie_call (Stands router) (Stands router) IsOpening before now [] opened (λ call did r so. subst (Stands router) (sym (ap (λ (l : Record). l ++ r) (items_none call did))) so)
     (subst (λ (o : Option (List Called)). Ties (Stands router) o []) (sym none) (no_calls (Stands router) stands))
 
 -- the moves that were given meanwhile are those that were made

@@ -21,6 +21,7 @@ use Rattle.req_frame.specs.declared.frame.Body.{Body}
 use Rattle.world_model.specs.declared.step.Event.{Event}
 use Rattle.world_model.specs.Frames.{frame_in}
 use Rattle.world_model.specs.World.{Call}
+use Rattle.world_model.specs.declared.step.Did.{Did}
 
 module _ {B D : Type 0} (bays_tell disks_tell : Type 0) (content : D → Content) (faults : D → ℕ) (home : B → Home D) (out : B → Out) (same : B → B → Type 0) where
   -- the state and the nodes after the request at a place was run
@@ -35,7 +36,7 @@ module _ {B D : Type 0} (bays_tell disks_tell : Type 0) (content : D → Content
       → count ≡ s.answered + 1 → count < 2 ^ 32
       → requests ≡ taken s.requests place stays
       → replies ≡ s.replies ++ record { number = s.answered; node = asked.node; frame = record { correlation = question.correlation; partition = question.partition; body = Body.Answer reply } } ∷ []
-      → calls_of past ≡ record { steps = run_step asked.number reply ∷ []; given = Some Event.Quiet } ∷ calls_of s.past
+      → calls_of past ≡ record { did = Did.Delivered Event.Quiet; steps = run_step asked.number reply ∷ [] } ∷ calls_of s.past
       → Answered s (record s { requests = requests; replies = replies; answered = count; past = past }) place stays nodes nodes'
   steps_answered s place stays asked question reply nodes nodes' requests replies past count sound within here asks of e so range more small left added told_is =
       let found : slice_get s.requests place ≡ Some asked = slice_get_read s.requests (length s.requests) place asked refl within here in

@@ -15,7 +15,7 @@ use Rattle.lab_nodes.specs.Nodes.{Holds, HomeHolds, IsFor, IsOutAs, NodesState, 
 use Rattle.lab_nodes.specs.Spots.{DiskFailed}
 use Rattle.mem_fabric.specs.Going.{AreNodesOf, GoesOn, HasTornBy, IsStopped, RunsAgain, SameNodes}
 use Rattle.mem_fabric.specs.GoingLaws.{bays_stay, packing_stays}
-use Rattle.mem_fabric.specs.Network.{MayAnswer, nothing_held, is_fault, run_step}
+use Rattle.mem_fabric.specs.Network.{MayAnswer, is_fault, run_step}
 use Rattle.mem_fabric.specs.Packing.{IsCalledPacked, IsPackedAt, KeepsPacking, PacksFrom, PacksTo, called_layouts, layouts_after}
 use Rattle.mem_fabric.specs.Past.{calls_of}
 use Rattle.mem_fabric.specs.Runs.{LeadsTo, RunsFrom}
@@ -33,7 +33,8 @@ use Rattle.world_model.specs.Fabric.{KeepsRun}
 use Rattle.world_model.specs.Lists.{numbered}
 use Rattle.world_model.specs.Record.{Record, Took}
 use Rattle.world_model.specs.Told.{told}
-use Rattle.world_model.specs.World.{Call, Cells, World, Change, Request, MayReply, MayRun, after, call_at, call_of, arriving_call, world}
+use Rattle.world_model.specs.World.{Call, Cells, nothing_held, World, Change, Request, MayReply, MayRun, after, call_at, call_of, arriving_call, world}
+use Rattle.world_model.specs.declared.step.Did.{Did}
 
 -- ---- which nodes are up
 
@@ -231,17 +232,17 @@ and_true true = refl
 and_true false = refl
 
 -- a call that ran a request leaves nothing in doubt just where the reply is no fault
-calm_run : (send : ℕ) (reply : Reply) (before : List Called) → has_torn (record { steps = run_step send reply ∷ []; given = Some Event.Quiet } ∷ before) ≡ false → (is_fault reply ≡ false) × (has_torn before ≡ false)
+calm_run : (send : ℕ) (reply : Reply) (before : List Called) → has_torn (record { did = Did.Delivered Event.Quiet; steps = run_step send reply ∷ [] } ∷ before) ≡ false → (is_fault reply ≡ false) × (has_torn before ≡ false)
 calm_run send reply before calm = go (is_fault reply) refl calm
   where
-    go : (b : Bool) → is_fault reply ≡ b → has_torn (record { steps = cond b (Step.Torn send) (Step.Exec send reply) ∷ []; given = Some Event.Quiet } ∷ before) ≡ false → (is_fault reply ≡ false) × (has_torn before ≡ false)
+    go : (b : Bool) → is_fault reply ≡ b → has_torn (record { did = Did.Delivered Event.Quiet; steps = cond b (Step.Torn send) (Step.Exec send reply) ∷ [] } ∷ before) ≡ false → (is_fault reply ≡ false) × (has_torn before ≡ false)
     go true e calm = absurd cc
     go false e calm = (e, calm)
 
-torn_run : (send : ℕ) (reply : Reply) (before : List Called) → has_torn (record { steps = run_step send reply ∷ []; given = Some Event.Quiet } ∷ before) ≡ true → (is_fault reply ≡ true) ⊎ (has_torn before ≡ true)
+torn_run : (send : ℕ) (reply : Reply) (before : List Called) → has_torn (record { did = Did.Delivered Event.Quiet; steps = run_step send reply ∷ [] } ∷ before) ≡ true → (is_fault reply ≡ true) ⊎ (has_torn before ≡ true)
 torn_run send reply before torn = go (is_fault reply) refl torn
   where
-    go : (b : Bool) → is_fault reply ≡ b → has_torn (record { steps = cond b (Step.Torn send) (Step.Exec send reply) ∷ []; given = Some Event.Quiet } ∷ before) ≡ true → (is_fault reply ≡ true) ⊎ (has_torn before ≡ true)
+    go : (b : Bool) → is_fault reply ≡ b → has_torn (record { did = Did.Delivered Event.Quiet; steps = cond b (Step.Torn send) (Step.Exec send reply) ∷ [] } ∷ before) ≡ true → (is_fault reply ≡ true) ⊎ (has_torn before ≡ true)
     go true e torn = inl e
     go false e torn = inr torn
 
@@ -289,13 +290,13 @@ module _ {B D : Type 0} (bays_tell disks_tell : Type 0) (content : D → Content
       → numbered (world nothing_held (told before)).sent send ≡ Some request → call_of (Some request) ≡ Some call → (world nothing_held (told before)).stopped call.node ≡ false
       → AskedSo nodes call.node call.partition call.ask reply nodes' → is_fault reply ≡ false → has_torn before ≡ false → disks_tell
       → (shape : Shape) (folder : List ℕ) (opening : Cells) → LeadsTo disks_tell content home shape folder opening before nodes
-      → LeadsTo disks_tell content home shape folder opening (record { steps = Step.Exec send reply ∷ []; given = Some Event.Quiet } ∷ before) nodes'
+      → LeadsTo disks_tell content home shape folder opening (record { did = Did.Delivered Event.Quiet; steps = Step.Exec send reply ∷ [] } ∷ before) nodes'
   leads_asked before nodes nodes' send request call reply is called runs a calm sure t shape folder opening l =
       let w : World = world opening (told before) in
       let same_but : w ≡ record (world nothing_held (told before)) { cells = w.cells } = apart opening nothing_held (told before) in
       let called_at : call_at w send ≡ Some call = called_in opening (told before) send request call is called in
       let not_fault : reply ≢ Reply.Fault = no_fault_is reply calm in
-      let cells_are : (world opening (told (record { steps = Step.Exec send reply ∷ []; given = Some Event.Quiet } ∷ before))).cells ≡ asked_cells w.cells call.node call.partition call.ask reply =
+      let cells_are : (world opening (told (record { did = Did.Delivered Event.Quiet; steps = Step.Exec send reply ∷ [] } ∷ before))).cells ≡ asked_cells w.cells call.node call.partition call.ask reply =
       same_cells (after w (Took (Step.Exec send reply))).cells ∙ ap (λ (o : Option Call). λ n p id. join (w.cells n p id) (arriving_call o reply n p id)) called_at in
       let says : MayReply (w.doubts call.node call.partition) (w.cells call.node call.partition (id_of call.ask)) call.ask reply =
       subst (λ (d : Option Change). MayReply d (w.cells call.node call.partition (id_of call.ask)) call.ask reply) (sym (none_in_doubt opening before sure call.node call.partition))
@@ -318,7 +319,7 @@ module _ {B D : Type 0} (bays_tell disks_tell : Type 0) (content : D → Content
       → numbered (world nothing_held (told before)).sent send ≡ Some request → call_of (Some request) ≡ Some call → (world nothing_held (told before)).stopped call.node ≡ false
       → AskedSo nodes call.node call.partition call.ask reply nodes' → is_fault reply ≡ false → has_torn before ≡ false → disks_tell
       → (shape : Shape) (folder : List ℕ) (opening : Cells) (first : Layouts) → is_up nodes call.node call.partition ≡ has_replica shape call.node call.partition → PacksTo disks_tell content home shape folder opening first before nodes
-      → PacksTo disks_tell content home shape folder opening first (record { steps = Step.Exec send reply ∷ []; given = Some Event.Quiet } ∷ before) nodes'
+      → PacksTo disks_tell content home shape folder opening first (record { did = Did.Delivered Event.Quiet; steps = Step.Exec send reply ∷ [] } ∷ before) nodes'
   packs_asked before nodes nodes' send request call reply is called runs a calm sure t shape folder opening first up p =
       let w : World = world opening (told before) in
       let layouts : Layouts = layouts_after (settings_of shape) opening first (told before) in
@@ -338,7 +339,7 @@ module _ {B D : Type 0} (bays_tell disks_tell : Type 0) (content : D → Content
       packed_at true e cells layouts holds laid not_fault = a.packed t shape folder cells layouts holds laid not_fault e
 
   pub goes_asked : (s s' : State) (nodes nodes' : NodesState B D) (send : ℕ) (request : Request) (call : Call) (reply : Reply) → same nodes.bays nodes.bays → AreNodesOf s nodes → SameNodes s s'
-      → calls_of s'.past ≡ record { steps = run_step send reply ∷ []; given = Some Event.Quiet } ∷ calls_of s.past
+      → calls_of s'.past ≡ record { did = Did.Delivered Event.Quiet; steps = run_step send reply ∷ [] } ∷ calls_of s.past
       → numbered (told_world s.past).sent send ≡ Some request → call_of (Some request) ≡ Some call → (told_world s.past).stopped call.node ≡ false → is_among s.stopped call.node ≡ false
       → AskedSo nodes call.node call.partition call.ask reply nodes' → GoesOn bays_tell disks_tell content faults home out same s nodes s' nodes'
   goes_asked s s' nodes nodes' send request call reply e of stays told_is is called runs running a =
@@ -348,7 +349,7 @@ module _ {B D : Type 0} (bays_tell disks_tell : Type 0) (content : D → Content
         run = λ shape folder opening leads t calm.
             let both = calm_run send reply (calls_of s.past) (ap has_torn (sym told_is) ∙ calm) in
             subst (λ (calls : List Called). LeadsTo disks_tell content home shape folder opening calls nodes') (sym told_is)
-            (subst (λ (b : Bool). LeadsTo disks_tell content home shape folder opening (record { steps = cond b (Step.Torn send) (Step.Exec send reply) ∷ []; given = Some Event.Quiet } ∷ calls_of s.past) nodes') (sym both.0)
+            (subst (λ (b : Bool). LeadsTo disks_tell content home shape folder opening (record { did = Did.Delivered Event.Quiet; steps = cond b (Step.Torn send) (Step.Exec send reply) ∷ [] } ∷ calls_of s.past) nodes') (sym both.0)
             (leads_asked (calls_of s.past) nodes nodes' send request call reply is called runs a both.0 both.1 t shape folder opening (leads t both.1)));
         packing = λ standing. (
           ap is_some a.named.0 ∙ standing,
@@ -358,7 +359,7 @@ module _ {B D : Type 0} (bays_tell disks_tell : Type 0) (content : D → Content
               let up : is_up nodes call.node call.partition ≡ has_replica shape call.node call.partition =
               up_as s nodes call.node call.partition of running ∙ ap (λ o. stands o call.node call.partition) (sym of.shape ∙ open_for nodes.shape shape folder nodes.folder standing p.leads.holds.named) in
               subst (λ (calls : List Called). PacksTo disks_tell content home shape folder opening first calls nodes') (sym told_is)
-              (subst (λ (b : Bool). PacksTo disks_tell content home shape folder opening first (record { steps = cond b (Step.Torn send) (Step.Exec send reply) ∷ []; given = Some Event.Quiet } ∷ calls_of s.past) nodes') (sym both.0)
+              (subst (λ (b : Bool). PacksTo disks_tell content home shape folder opening first (record { did = Did.Delivered Event.Quiet; steps = cond b (Step.Torn send) (Step.Exec send reply) ∷ [] } ∷ calls_of s.past) nodes') (sym both.0)
               (packs_asked (calls_of s.past) nodes nodes' send request call reply is called runs a both.0 both.1 t shape folder opening first up p)),
         );
         bays = record { same_bays = subst (λ (b : B). same nodes.bays b) (sym a.bays) e; own = λ t. own_asked nodes nodes' call.node call.partition call.ask reply a };

@@ -1,26 +1,26 @@
 -- What a call does, as acts, and what acts from the beginning say of the calls told.
-use Rattle.std.proofs.Common.{◌≡◌, ℕ, suc, ◌==◌, Bool, true, false, ◌&&◌, ◌||◌, not, cond, List, [], ◌∷◌, ◌++◌, length, Option, Some, None, Result, Ok, Err, refl, sym, ap, ◌∙◌, subst, append-nil}
+use Rattle.std.proofs.Common.{◌≡◌, ℕ, suc, ◌==◌, Bool, true, false, ◌&&◌, ◌||◌, not, cond, List, [], ◌∷◌, ◌++◌, length, Option, Some, None, Result, Ok, Err, refl, sym, ap, ◌∙◌, subst, append-nil, append_assoc}
 use Rattle.std.specs.Prelude.{IsSome, OnOk, OnErr}
 use Rattle.blob_id.specs.declared.memory.Memory.{Memory}
-use Rattle.mem_fabric.specs.Network.{Network, nothing, nothing_held, is_stopped, after_open, after_steps, after_send, after_sent, after_order, MayRestart, MayBeTold, after_given, IsOldest, Does, Obeys}
+use Rattle.mem_fabric.specs.Network.{Network, nothing, is_stopped, after_open, after_steps, after_send, after_sent, after_order, MayRestart, MayBeTold, after_given, IsOldest, Does, Obeys}
 use Rattle.mem_fabric.specs.Past.{calls_of, order_steps}
-use Rattle.mem_fabric.specs.Played.{Act, Opens, Sends, Orders, Gives, Moves, Fails, acted, all_acted, MayAct, AllMay, moves_of, Plays, Falls, AtMostOne, IsPlayed}
+use Rattle.mem_fabric.specs.Played.{Act, Opens, Sends, Orders, Gives, Moves, Fails, acted, all_acted, MayAct, AllMay, moves_of, order_in, orders_of, Plays, Falls, AtMostOne, IsPlayed}
 use Rattle.mem_fabric.specs.PlayedLaws.{plays_on}
 use Rattle.mem_fabric.specs.Sound.{State, AllShow, IsSound, fresh_state, network_of, told_world}
-use Rattle.mem_fabric.proofs.Worlds.{waits_alike}
 use Rattle.world_model.specs.declared.moves.Move.{Move}
 use Rattle.world_model.specs.declared.order.Order.{Order}
 use Rattle.world_model.specs.declared.order.PullCause.{PullCause}
 use Rattle.world_model.specs.declared.order.Told.{Told}
 use Rattle.world_model.specs.declared.shape.Shape.{Shape}
 use Rattle.world_model.specs.declared.step.Called.{Called}
+use Rattle.world_model.specs.declared.step.Did.{Did}
 use Rattle.world_model.specs.declared.step.Event.{Event}
 use Rattle.world_model.specs.declared.step.Step.{Step}
 use Rattle.world_model.specs.Fabric.{HasNode, Awaits, TakesOrder, TellsOrder}
 use Rattle.world_model.specs.Orders.{is_stopped as is_stopped_by, ComesTo}
 use Rattle.world_model.specs.Record.{Marked, Drawn, Aimed, Took, Given, Withheld, Decided, Record}
-use Rattle.world_model.specs.Told.{told, AllNetwork}
-use Rattle.world_model.specs.World.{Made, world}
+use Rattle.world_model.specs.Told.{orders_told, told, AllNetwork}
+use Rattle.world_model.specs.World.{Made, nothing_held, world}
 
 pub plays_open : (given : List Move) (s s' : State) (shape : Shape) → s ≡ fresh_state → network_of s' ≡ after_open (network_of s) shape → Plays given (network_of s) given (network_of s')
 plays_open given s s' shape fresh e = (Opens shape ∷ [], tt, record { moves = sym (append-nil given); may = (tt, ap network_of fresh); network = e })
@@ -92,7 +92,7 @@ comes_to n (Order.Compact a p) answer may = absurd may
 comes_to n (Order.Level p a b) answer may = absurd may
 
 -- an order tells its steps, as one call
-pub calls_on : (n : Network) (order : Order) (answer : Told) → (after_order n order answer).calls ≡ record { steps = order_steps order answer; given = None } ∷ n.calls
+pub calls_on : (n : Network) (order : Order) (answer : Told) → (after_order n order answer).calls ≡ record { did = Did.Administered order answer; steps = order_steps order answer } ∷ n.calls
 calls_on n (Order.Stop node) Told.Done = refl
 calls_on n (Order.Restart node) Told.Done = refl
 calls_on n _ _ = refl
@@ -105,8 +105,8 @@ network_steps _ _ = tt
 pub tells_order : (s s' : State) (order : Order) (answer : Told) → Obeys (network_of s) order answer (network_of s') → TellsOrder (Ok answer) (Some (calls_of s.past)) (Some (calls_of s'.past)) order
 tells_order s s' order answer obeys =
     let n : Network = network_of s in
-    let calls : calls_of s'.past ≡ record { steps = order_steps order answer; given = None } ∷ calls_of s.past = ap (λ (m : Network). m.calls) obeys.network ∙ calls_on n order answer in
-    (record { steps = order_steps order answer; given = None }, record { network = network_steps order answer; none = refl; comes = comes_to n order answer obeys.may }, ap (λ l. Some l) calls)
+    let calls : calls_of s'.past ≡ record { did = Did.Administered order answer; steps = order_steps order answer } ∷ calls_of s.past = ap (λ (m : Network). m.calls) obeys.network ∙ calls_on n order answer in
+    (record { did = Did.Administered order answer; steps = order_steps order answer }, record { did = refl; network = network_steps order answer; comes = comes_to n order answer obeys.may }, ap (λ l. Some l) calls)
 
 -- ---- events that waited, and moves
 
@@ -137,7 +137,7 @@ as_many (made ∷ rest) [] shown = absurd shown
 as_many (made ∷ rest) (event ∷ queue) shown = ap suc (as_many rest queue shown.1)
 
 pub all_wait : (s : State) → IsSound s → Awaits (Some (calls_of s.past)) (length s.queue)
-all_wait s sound = λ opening run. as_many (told_world s.past).waiting s.queue sound.state.waits ∙ sym (ap length (waits_alike opening (told (calls_of s.past))))
+all_wait s sound = as_many (told_world s.past).waiting s.queue sound.state.waits
 
 -- ---- from the beginning
 
@@ -146,7 +146,7 @@ keeps_shape : (n : Network) (act : Act) (shape : Shape) → MayAct n act → n.s
 keeps_shape n (Opens other) shape may e = absurd (let none : n.shape ≡ None = ap (λ (m : Network). m.shape) may in cc)
 keeps_shape n (Sends node frame) shape may e = sent_shape (is_stopped n node)
   where
-    sent_shape : (b : Bool) → (cond b (after_steps n (Step.Refused node frame ∷ [])) (after_sent n node frame)).shape ≡ Some shape
+    sent_shape : (b : Bool) → (cond b (after_steps n (Did.Requested node frame) (Step.Refused node frame ∷ [])) (after_sent n node frame)).shape ≡ Some shape
     sent_shape true = e
     sent_shape false = e
 keeps_shape n (Orders order answer) shape may e = ordered_shape order answer
@@ -162,6 +162,24 @@ keeps_shape n (Fails chosen) shape may e = e
 keeps_shape_all : (n : Network) (acts : List Act) (shape : Shape) → AllMay n acts → n.shape ≡ Some shape → (all_acted n acts).shape ≡ Some shape
 keeps_shape_all n [] shape may e = e
 keeps_shape_all n (act ∷ before) shape may e = keeps_shape (all_acted n before) act shape may.1 (keeps_shape_all n before shape may.0 e)
+
+-- the orders among the acts are those that their calls tell
+ordered_by : (n : Network) (act : Act) → orders_told (acted n act).calls ≡ order_in act ++ orders_told n.calls
+ordered_by n (Opens shape) = refl
+ordered_by n (Sends node frame) = sent_by (is_stopped n node)
+  where
+    sent_by : (b : Bool) → orders_told (cond b (after_steps n (Did.Requested node frame) (Step.Refused node frame ∷ [])) (after_sent n node frame)).calls ≡ orders_told n.calls
+    sent_by true = refl
+    sent_by false = refl
+ordered_by n (Orders order answer) = ap orders_told (calls_on n order answer)
+ordered_by n (Gives event) = refl
+ordered_by n (Moves chosen reply opened) = refl
+ordered_by n (Fails chosen) = refl
+
+acts_ordered : (n : Network) (acts : List Act) → orders_told (all_acted n acts).calls ≡ orders_of acts ++ orders_told n.calls
+acts_ordered n [] = refl
+acts_ordered n (act ∷ before) =
+    ordered_by (all_acted n before) act ∙ ap (λ l. order_in act ++ l) (acts_ordered n before) ∙ sym (append_assoc (order_in act) (orders_of before) (orders_told n.calls))
 
 opened_shape : (opened : Bool) (shape : Option Shape) (found : Shape) → cond opened shape None ≡ Some found → shape ≡ Some found
 opened_shape true shape found e = e
@@ -188,6 +206,7 @@ played a b c s t u opened shape calls fresh p opening q told_is T K seeds bays =
         took = refl;
         opened = ap (λ (n : Network). n.shape) (sym there) ∙ later;
         told = same ∙ ap (λ (n : Network). n.calls) there;
+        ordered = ap orders_told (same ∙ ap (λ (n : Network). n.calls) there) ∙ acts_ordered nothing whole.0 ∙ append-nil (orders_of whole.0);
       },
       seeds,
       bays,

@@ -20,7 +20,7 @@ use Rattle.mem_fabric.specs.declared.asking.Question.{Question}
 use Rattle.mem_fabric.specs.declared.flight.Asked.{Asked}
 use Rattle.mem_fabric.specs.declared.flight.Replied.{Replied}
 use Rattle.mem_fabric.specs.declared.past.Past.{Past}
-use Rattle.mem_fabric.specs.Network.{Network, Moved, nothing_held, taken, ticked, quiet, is_to, is_by, requests_elsewhere, replies_elsewhere, broken, handed, reply_event, after_move, after_steps, after_send, after_sent, is_stopped, asked_by, is_fault, run_step, answered, MayAnswer, MayGive}
+use Rattle.mem_fabric.specs.Network.{Network, Moved, taken, ticked, quiet, is_to, is_by, requests_elsewhere, replies_elsewhere, broken, handed, reply_event, after_move, after_steps, after_send, after_sent, is_stopped, asked_by, is_fault, run_step, answered, MayAnswer, MayGive}
 use Rattle.mem_fabric.specs.Past.{calls_of}
 use Rattle.mem_fabric.specs.Torn.{has_torn}
 use Rattle.mem_fabric.specs.Sound.{State, told_world, IsSent, IsGiven, is_among, AllShow, IsStateOf, IsSound, network_of, KeepsLayouts, KeepsState, asked_number, replied_number, RunsRequest}
@@ -34,9 +34,10 @@ use Rattle.world_model.specs.Lists.{numbered}
 use Rattle.world_model.specs.Told.{items_of, told}
 use Rattle.world_model.specs.Record.{Took, Given}
 use Rattle.world_model.specs.World.{answered as given_to}
-use Rattle.world_model.specs.World.{Cells, World, Change, Request, Answered, Call, Reply_made, Broken_made, Now_made, Made, made_by, Shows, IsNext, world, after, call_at, call_from, call_of, Run}
+use Rattle.world_model.specs.World.{Cells, nothing_held, World, Change, Request, Answered, Call, Reply_made, Broken_made, Now_made, Made, made_by, Shows, IsNext, world, after, call_at, call_from, call_of, Run}
 use Rattle.world_model.proofs.CellLaws.{same_number, number_true}
 use Rattle.world_model.proofs.NoteLaws.{decoded_frame}
+use Rattle.world_model.specs.declared.step.Did.{Did}
 
 -- ---- lists
 
@@ -90,16 +91,16 @@ map-taken f xs i false = map-append f (take i xs) (drop (suc i) xs) ∙ ap (λ l
 pub world_by : (past before : Past) (call : Called) (w : World) → calls_of past ≡ call ∷ calls_of before → goes_to (told_world before) (items_of call) ≡ w → told_world past ≡ w
 world_by past before call w told_is is = ap (λ (calls : List Called). world nothing_held (told calls)) told_is ∙ world_on nothing_held (items_of call) (told (calls_of before)) ∙ is
 
-pub keeps : (s s' : State) (steps : List Step) (given : Option Event) → AllStill steps → calls_of s'.past ≡ record { steps = steps; given = given } ∷ calls_of s.past
-    → AllowedOn (told_world s.past) (items_of (record { steps = steps; given = given })) → KeepsState s s'
-keeps s s' steps given still told_is allowed = λ opening.
+pub keeps : (s s' : State) (steps : List Step) (did : Did) → AllStill steps → calls_of s'.past ≡ record { did = did; steps = steps } ∷ calls_of s.past
+    → AllowedOn (told_world s.past) (items_of (record { did = did; steps = steps })) → KeepsState s s'
+keeps s s' steps did still told_is allowed = λ opening.
     subst (λ (calls : List Called). (Run opening (told (calls_of s.past)) → Run opening (told calls)) × ((world opening (told calls)).cells ≡ (world opening (told (calls_of s.past))).cells) × (has_torn calls ≡ has_torn (calls_of s.past))
     × ((shape : Shape) (first : Layouts) → KeepsLayouts shape opening first (told (calls_of s.past)) (told calls)))
     (sym told_is) (
-      run_keeps opening (calls_of s.past) steps given still allowed,
-      cells_keep opening (calls_of s.past) steps given still,
-      torn_keeps (calls_of s.past) steps given still,
-      λ shape first. layouts_keep shape opening first (calls_of s.past) steps given still,
+      run_keeps opening (calls_of s.past) steps did still allowed,
+      cells_keep opening (calls_of s.past) steps did still,
+      torn_keeps (calls_of s.past) steps did still,
+      λ shape first. layouts_keep shape opening first (calls_of s.past) steps did still,
     )
 
 -- where no event waits in the state, none waits in the world
@@ -120,7 +121,7 @@ pub record Steps (s s' : State) (m : Moved) : Type 0 where
 -- ---- the clock
 
 pub steps_now : (s : State) (ms moment : ℕ) (past : Past) → IsSound s → s.queue ≡ [] → s.clock < 2 ^ 64 → moment ≡ min (s.clock + ms) (2 ^ 64 - 1)
-    → calls_of past ≡ record { steps = Step.Now moment ∷ []; given = Some (Event.Now moment) } ∷ calls_of s.past
+    → calls_of past ≡ record { did = Did.Delivered (Event.Now moment); steps = Step.Now moment ∷ [] } ∷ calls_of s.past
     → Steps s (record s { clock = moment; past = past }) (ticked (network_of s) ms)
 steps_now s ms moment past sound calm small moment_is told_is =
     let w : World = told_world s.past in
@@ -153,19 +154,19 @@ steps_now s ms moment past sound calm small moment_is told_is =
     let clock_is : moment ≡ min (w.clock + ms) (2 ^ 64 - 1) = moment_is ∙ ap (λ c. min (c + ms) (2 ^ 64 - 1)) (sym st.clock) in
     record {
       sound = sound';
-      run = keeps s s' (Step.Now moment ∷ []) (Some (Event.Now moment)) (tt, refl) told_is ((tt, later), next);
-      network = ap (λ calls. record (network_of s) { calls = calls }) (told_is ∙ ap (λ k. record { steps = Step.Now k ∷ []; given = Some (Event.Now k) } ∷ calls_of s.past) clock_is);
+      run = keeps s s' (Step.Now moment ∷ []) (Did.Delivered (Event.Now moment)) (tt, refl) told_is ((tt, later), next);
+      network = ap (λ calls. record (network_of s) { calls = calls }) (told_is ∙ ap (λ k. record { did = Did.Delivered (Event.Now k); steps = Step.Now k ∷ [] } ∷ calls_of s.past) clock_is);
     }
 
 -- ---- nothing comes of it
 
 -- a state with less in flight, after a call that changes nothing else of the world
 steps_less : (s : State) (steps : List Step) (event : Event) (requests : List Asked) (replies : List Replied) (past : Past) → IsSound s → AllStill steps
-    → goes_to (told_world s.past) (items_of (record { steps = steps; given = Some event })) ≡ told_world s.past
-    → AllowedOn (told_world s.past) (items_of (record { steps = steps; given = Some event }))
+    → goes_to (told_world s.past) (items_of (record { did = Did.Delivered event; steps = steps })) ≡ told_world s.past
+    → AllowedOn (told_world s.past) (items_of (record { did = Did.Delivered event; steps = steps }))
     → All (IsSent (told_world s.past).sent) requests → All (λ asked. is_among s.stopped asked.node ≡ false) requests → length requests ≤ length s.requests
     → All (IsGiven (told_world s.past).replies) replies → All (λ replied. is_among s.stopped replied.node ≡ false) replies → length replies ≤ length s.replies
-    → calls_of past ≡ record { steps = steps; given = Some event } ∷ calls_of s.past
+    → calls_of past ≡ record { did = Did.Delivered event; steps = steps } ∷ calls_of s.past
     → Steps s (record s { requests = requests; replies = replies; past = past }) (record { steps = steps; event = event; requests = map asked_number requests; replies = map replied_number replies })
 steps_less s steps event requests replies past sound still stays allowed known awake few known' awake' few' told_is =
     let w : World = told_world s.past in
@@ -196,20 +197,20 @@ steps_less s steps event requests replies past sound still stays allowed known a
     } in
     record {
       sound = sound';
-      run = keeps s s' steps (Some event) still told_is allowed;
+      run = keeps s s' steps (Did.Delivered event) still told_is allowed;
       network = ap (λ calls. record { shape = s.shape; calls = calls; requests = map asked_number requests; replies = map replied_number replies; queue = s.queue }) told_is;
     }
 
 steps_quiet : (s : State) (requests : List Asked) (replies : List Replied) (past : Past) → IsSound s
     → All (IsSent (told_world s.past).sent) requests → All (λ asked. is_among s.stopped asked.node ≡ false) requests → length requests ≤ length s.requests
     → All (IsGiven (told_world s.past).replies) replies → All (λ replied. is_among s.stopped replied.node ≡ false) replies → length replies ≤ length s.replies
-    → calls_of past ≡ record { steps = []; given = Some Event.Quiet } ∷ calls_of s.past
+    → calls_of past ≡ record { did = Did.Delivered Event.Quiet; steps = [] } ∷ calls_of s.past
     → Steps s (record s { requests = requests; replies = replies; past = past }) (quiet (map asked_number requests) (map replied_number replies))
 steps_quiet s requests replies past sound known awake few known' awake' few' told_is =
     steps_less s [] Event.Quiet requests replies past sound tt (after_quiet (told_world s.past)) (tt, tt) known awake few known' awake' few' told_is
 
 pub steps_left : (s : State) (place : ℕ) (stays : Bool) (past : Past) → IsSound s → place < length s.requests
-    → calls_of past ≡ record { steps = []; given = Some Event.Quiet } ∷ calls_of s.past
+    → calls_of past ≡ record { did = Did.Delivered Event.Quiet; steps = [] } ∷ calls_of s.past
     → Steps s (record s { requests = taken s.requests place stays; past = past }) (quiet (taken (network_of s).requests place stays) (network_of s).replies)
 steps_left s place stays past sound within told_is =
     subst (λ l. Steps s (record s { requests = taken s.requests place stays; past = past }) (quiet l (network_of s).replies)) (map-taken asked_number s.requests place stays)
@@ -219,7 +220,7 @@ steps_left s place stays past sound within told_is =
     sound.state.replies sound.state.answering (omega arith) told_is)
 
 pub steps_dropped : (s : State) (place : ℕ) (past : Past) → IsSound s → place < length s.replies
-    → calls_of past ≡ record { steps = []; given = Some Event.Quiet } ∷ calls_of s.past
+    → calls_of past ≡ record { did = Did.Delivered Event.Quiet; steps = [] } ∷ calls_of s.past
     → Steps s (record s { replies = taken s.replies place false; past = past }) (quiet (network_of s).requests (taken (network_of s).replies place false))
 steps_dropped s place past sound within told_is =
     subst (λ l. Steps s (record s { replies = taken s.replies place false; past = past }) (quiet (network_of s).requests l)) (map-taken replied_number s.replies place false)
@@ -262,7 +263,7 @@ replies_left s node sound =
     (All-weaker (IsGiven w.replies) (λ r. not (is_by node (numbered w.replies r.number)) ≡ replied_elsewhere node r) (λ r g. ap (λ o. not (is_by node o)) g.is) s.replies sound.state.replies)
 
 pub steps_cut : (s : State) (node : ℕ) (past : Past) → IsSound s → s.queue ≡ []
-    → calls_of past ≡ record { steps = Step.Cut node ∷ []; given = Some (Event.Broken node) } ∷ calls_of s.past
+    → calls_of past ≡ record { did = Did.Delivered (Event.Broken node); steps = Step.Cut node ∷ [] } ∷ calls_of s.past
     → Steps s (record s { requests = filter (asked_elsewhere node) s.requests; replies = filter (replied_elsewhere node) s.replies; past = past }) (broken (network_of s) node)
 steps_cut s node past sound calm told_is =
     let w : World = told_world s.past in
@@ -287,7 +288,7 @@ steps_cut s node past sound calm told_is =
 
 -- the same call, by equal parts
 pub sent_as : {node node' : ℕ} {frame frame' : List ℕ} {before before' : List Called} → node ≡ node' → frame ≡ frame' → before ≡ before'
-    → record { steps = Step.Send 0 node frame ∷ []; given = None } ∷ before ≡ record { steps = Step.Send 0 node' frame' ∷ []; given = None } ∷ before'
+    → record { did = Did.Requested node frame; steps = Step.Send 0 node frame ∷ [] } ∷ before ≡ record { did = Did.Requested node' frame'; steps = Step.Send 0 node' frame' ∷ [] } ∷ before'
 sent_as e f g = cc
 
 pub record Sends (s s' : State) (node : ℕ) (frame : List ℕ) : Type 0 where
@@ -296,7 +297,7 @@ pub record Sends (s s' : State) (node : ℕ) (frame : List ℕ) : Type 0 where
   pub network : network_of s' ≡ after_send (network_of s) node frame
 
 pub steps_sent : (s : State) (node : ℕ) (frame : List ℕ) (past : Past) (sent : ℕ) → IsSound s → is_stopped (network_of s) node ≡ false → sent ≡ s.sent + 1 → sent < 2 ^ 32
-    → calls_of past ≡ record { steps = Step.Send 0 node frame ∷ []; given = None } ∷ calls_of s.past
+    → calls_of past ≡ record { did = Did.Requested node frame; steps = Step.Send 0 node frame ∷ [] } ∷ calls_of s.past
     → Sends s (record s { requests = s.requests ++ record { number = s.sent; node = node; frame = frame } ∷ []; sent = sent; past = past }) node frame
 steps_sent s node frame past sent sound runs_there more small told_is =
     let w : World = told_world s.past in
@@ -335,21 +336,21 @@ steps_sent s node frame past sent sound runs_there more small told_is =
     map-append asked_number s.requests (asked ∷ []) ∙ ap (λ k. map asked_number s.requests ++ k ∷ []) (sym st.sent) in
     record {
       sound = sound';
-      run = keeps s s' (Step.Send 0 node frame ∷ []) None (tt, refl) told_is (tt, inl refl);
+      run = keeps s s' (Step.Send 0 node frame ∷ []) (Did.Requested node frame) (tt, refl) told_is (tt, inl refl);
       network = ap (λ calls. record { shape = s.shape; calls = calls; requests = map asked_number (s.requests ++ asked ∷ []); replies = map replied_number s.replies; queue = s.queue }) told_is
-          ∙ ap (λ l. record { shape = s.shape; calls = record { steps = Step.Send 0 node frame ∷ []; given = None } ∷ calls_of s.past; requests = l; replies = map replied_number s.replies; queue = s.queue }) numbers
-          ∙ ap (λ b. cond b (after_steps (network_of s) (Step.Refused node frame ∷ [])) (after_sent (network_of s) node frame)) (sym runs_there);
+          ∙ ap (λ l. record { shape = s.shape; calls = record { did = Did.Requested node frame; steps = Step.Send 0 node frame ∷ [] } ∷ calls_of s.past; requests = l; replies = map replied_number s.replies; queue = s.queue }) numbers
+          ∙ ap (λ b. cond b (after_steps (network_of s) (Did.Requested node frame) (Step.Refused node frame ∷ [])) (after_sent (network_of s) node frame)) (sym runs_there);
     }
 
 -- a request is refused
 
 pub refused_as : {node node' : ℕ} {frame frame' : List ℕ} {before before' : List Called} → node ≡ node' → frame ≡ frame' → before ≡ before'
-    → record { steps = Step.Refused node frame ∷ []; given = None } ∷ before ≡ record { steps = Step.Refused node' frame' ∷ []; given = None } ∷ before'
+    → record { did = Did.Requested node frame; steps = Step.Refused node frame ∷ [] } ∷ before ≡ record { did = Did.Requested node' frame'; steps = Step.Refused node' frame' ∷ [] } ∷ before'
 refused_as e f g = cc
 
 pub run_refused : (s : State) (node : ℕ) (frame : List ℕ) (past : Past) → is_stopped (network_of s) node ≡ true
-    → calls_of past ≡ record { steps = Step.Refused node frame ∷ []; given = None } ∷ calls_of s.past → KeepsState s (record s { past = past })
-run_refused s node frame past stopped told_is = keeps s (record s { past = past }) (Step.Refused node frame ∷ []) None (tt, refl) told_is (tt, stopped)
+    → calls_of past ≡ record { did = Did.Requested node frame; steps = Step.Refused node frame ∷ [] } ∷ calls_of s.past → KeepsState s (record s { past = past })
+run_refused s node frame past stopped told_is = keeps s (record s { past = past }) (Step.Refused node frame ∷ []) (Did.Requested node frame) (tt, refl) told_is (tt, stopped)
 
 -- ---- a reply comes
 
@@ -359,7 +360,7 @@ pub record Hands (s s' : State) (place : ℕ) (stays : Bool) (event : Event) : T
 
 pub steps_handed : (s : State) (place : ℕ) (stays : Bool) (replied : Replied) (bytes : List ℕ) (past : Past) → IsSound s → s.queue ≡ [] → place < length s.replies → replied ≡ slice_index_or s.replies place replied
     → bytes ≡ frame_text replied.frame → frame_of bytes ≡ Some replied.frame
-    → calls_of past ≡ record { steps = Step.Hand replied.number ∷ []; given = Some (Event.Reply replied.node bytes) } ∷ calls_of s.past
+    → calls_of past ≡ record { did = Did.Delivered (Event.Reply replied.node bytes); steps = Step.Hand replied.number ∷ [] } ∷ calls_of s.past
     → Hands s (record s { replies = taken s.replies place stays; past = past }) place stays (Event.Reply replied.node bytes)
 steps_handed s place stays replied bytes past sound calm within here spelled read told_is =
     let w : World = told_world s.past in
@@ -402,12 +403,12 @@ steps_handed s place stays replied bytes past sound calm within here spelled rea
     record {
       steps = record {
         sound = sound';
-        run = keeps s s' (Step.Hand replied.number ∷ []) (Some event) (tt, refl) told_is ((tt, some), next);
+        run = keeps s s' (Step.Hand replied.number ∷ []) (Did.Delivered event) (tt, refl) told_is ((tt, some), next);
         network =
             ap (λ calls. record { shape = s.shape; calls = calls; requests = map asked_number s.requests; replies = map replied_number (taken s.replies place stays); queue = s.queue }) told_is
-            ∙ ap (λ l. record { shape = s.shape; calls = record { steps = Step.Hand replied.number ∷ []; given = Some event } ∷ calls_of s.past; requests = map asked_number s.requests; replies = l; queue = s.queue }) (map-taken replied_number s.replies place stays)
-            ∙ ap (λ k. record { shape = s.shape; calls = record { steps = Step.Hand k ∷ []; given = Some event } ∷ calls_of s.past; requests = map asked_number s.requests; replies = taken (map replied_number s.replies) place stays; queue = s.queue }) (sym number)
-            ∙ ap (λ e. record { shape = s.shape; calls = record { steps = Step.Hand (slice_index (network_of s).replies place) ∷ []; given = Some e } ∷ calls_of s.past; requests = map asked_number s.requests; replies = taken (map replied_number s.replies) place stays; queue = s.queue }) (sym given_as);
+            ∙ ap (λ l. record { shape = s.shape; calls = record { did = Did.Delivered event; steps = Step.Hand replied.number ∷ [] } ∷ calls_of s.past; requests = map asked_number s.requests; replies = l; queue = s.queue }) (map-taken replied_number s.replies place stays)
+            ∙ ap (λ k. record { shape = s.shape; calls = record { did = Did.Delivered event; steps = Step.Hand k ∷ [] } ∷ calls_of s.past; requests = map asked_number s.requests; replies = taken (map replied_number s.replies) place stays; queue = s.queue }) (sym number)
+            ∙ ap (λ e. record { shape = s.shape; calls = record { did = Did.Delivered e; steps = Step.Hand (slice_index (network_of s).replies place) ∷ [] } ∷ calls_of s.past; requests = map asked_number s.requests; replies = taken (map replied_number s.replies) place stays; queue = s.queue }) (sym given_as);
       };
       gave = given_as;
     }
@@ -429,7 +430,7 @@ pub record HasReply (w : World) (answer : Answered) (v : World) : Type 0 where
   pub is : v ≡ record w { cells = cells; doubts = doubts; replies = answer ∷ w.replies }
 
 replied_by : (w : World) (send : ℕ) (request : Request) (reply : Reply) → numbered w.sent send ≡ Some request
-    → HasReply w (record { request = request; reply = reply }) (goes_to w (items_of (record { steps = run_step send reply ∷ []; given = Some Event.Quiet })))
+    → HasReply w (record { request = request; reply = reply }) (goes_to w (items_of (record { did = Did.Delivered Event.Quiet; steps = run_step send reply ∷ [] })))
 replied_by w send request reply is = go (is_fault reply) refl
   where
     answer : Answered
@@ -494,7 +495,7 @@ pub steps_ran : (s : State) (place : ℕ) (stays : Bool) (asked : Asked) (f : Fr
     → place < length s.requests → AsksAs s place asked question f → IsFrame f → IsQuestion f question
     → MayAnswer (network_of s) (record { node = asked.node; partition = question.partition; ask = question.ask }) reply → AnswersInRange reply
     → count ≡ s.answered + 1 → count < 2 ^ 32
-    → calls_of past ≡ record { steps = run_step asked.number reply ∷ []; given = Some Event.Quiet } ∷ calls_of s.past
+    → calls_of past ≡ record { did = Did.Delivered Event.Quiet; steps = run_step asked.number reply ∷ [] } ∷ calls_of s.past
     → RunsSoundly s place stays (record s {
       requests = taken s.requests place stays;
       replies = s.replies ++ record { number = s.answered; node = asked.node; frame = record { correlation = question.correlation; partition = question.partition; body = Body.Answer reply } } ∷ [];
@@ -509,7 +510,7 @@ steps_ran s place stays asked f question reply past count sound within as_sent i
     let call : Call = record { node = asked.node; partition = question.partition; ask = question.ask } in
     let replied : Replied = record { number = s.answered; node = asked.node; frame = record { correlation = question.correlation; partition = question.partition; body = Body.Answer reply } } in
     let answer : Answered = record { request = request; reply = reply } in
-    let by : HasReply w answer (goes_to w (items_of (record { steps = run_step asked.number reply ∷ []; given = Some Event.Quiet }))) = replied_by w asked.number request reply as_sent.request in
+    let by : HasReply w answer (goes_to w (items_of (record { did = Did.Delivered Event.Quiet; steps = run_step asked.number reply ∷ [] }))) = replied_by w asked.number request reply as_sent.request in
     let w' : World = record w { cells = by.cells; doubts = by.doubts; replies = answer ∷ w.replies } in
     let s' : State = record s { requests = taken s.requests place stays; replies = s.replies ++ replied ∷ []; answered = count; past = past } in
     let there : told_world past ≡ w' = world_by past s.past _ _ told_is by.is in
@@ -561,8 +562,8 @@ steps_ran s place stays asked f question reply past count sound within as_sent i
         gave = ap (λ o. (answered n reply (slice_index n.requests place) (taken n.requests place stays) o).event) as_sent.asked_is;
         network =
             ap (λ calls. record { shape = s.shape; calls = calls; requests = map asked_number (taken s.requests place stays); replies = map replied_number (s.replies ++ replied ∷ []); queue = s.queue }) told_is
-            ∙ ap (λ l. record { shape = s.shape; calls = record { steps = run_step asked.number reply ∷ []; given = Some Event.Quiet } ∷ calls_of s.past; requests = l; replies = map replied_number (s.replies ++ replied ∷ []); queue = s.queue }) (map-taken asked_number s.requests place stays)
-            ∙ ap (λ l. record { shape = s.shape; calls = record { steps = run_step asked.number reply ∷ []; given = Some Event.Quiet } ∷ calls_of s.past; requests = taken (map asked_number s.requests) place stays; replies = l; queue = s.queue })
+            ∙ ap (λ l. record { shape = s.shape; calls = record { did = Did.Delivered Event.Quiet; steps = run_step asked.number reply ∷ [] } ∷ calls_of s.past; requests = l; replies = map replied_number (s.replies ++ replied ∷ []); queue = s.queue }) (map-taken asked_number s.requests place stays)
+            ∙ ap (λ l. record { shape = s.shape; calls = record { did = Did.Delivered Event.Quiet; steps = run_step asked.number reply ∷ [] } ∷ calls_of s.past; requests = taken (map asked_number s.requests) place stays; replies = l; queue = s.queue })
             (map-append replied_number s.replies (replied ∷ []) ∙ ap (λ k. map replied_number s.replies ++ k ∷ []) (sym st.answered))
             ∙ ap (λ k. after_move n (record { steps = run_step k reply ∷ []; event = Event.Quiet; requests = taken n.requests place stays; replies = n.replies ++ length w.replies ∷ [] })) (sym as_sent.number)
             ∙ ap (λ o. after_move n (answered n reply (slice_index n.requests place) (taken n.requests place stays) o)) (sym as_sent.asked_is);
@@ -571,5 +572,5 @@ steps_ran s place stays asked f question reply past count sound within as_sent i
 
 -- the same call, by equal parts
 pub ran_as : {send send' : ℕ} {reply reply' : Reply} {before before' : List Called} → send ≡ send' → reply ≡ reply' → before ≡ before'
-    → record { steps = run_step send reply ∷ []; given = Some Event.Quiet } ∷ before ≡ record { steps = run_step send' reply' ∷ []; given = Some Event.Quiet } ∷ before'
+    → record { did = Did.Delivered Event.Quiet; steps = run_step send reply ∷ [] } ∷ before ≡ record { did = Did.Delivered Event.Quiet; steps = run_step send' reply' ∷ [] } ∷ before'
 ran_as e f g = cc

@@ -21,6 +21,7 @@ use Rattle.world_model.specs.Record.{Took, Given}
 use Rattle.world_model.specs.Told.{items_of}
 use Rattle.world_model.specs.World.{World, Made, Reply_made, Broken_made, Now_made, Shows, IsNext, after, Allowed}
 use Rattle.world_model.proofs.CellLaws.{number_true}
+use Rattle.world_model.specs.declared.step.Did.{Did}
 
 -- ---- nodes among others
 
@@ -106,14 +107,14 @@ pub record Went (s s' : State) : Type 0 where
   pub run : KeepsState s s'
 
 -- nodes, what is in flight and what waits may be others after a call that made no request and no reply
-went : (s : State) (stopped : List ℕ) (requests : List Asked) (replies : List Replied) (queue : List Event) (past : Past) (steps : List Step) (given : Option Event) → IsSound s → AllStill steps
-    → calls_of past ≡ record { steps = steps; given = given } ∷ calls_of s.past → AllowedOn (told_world s.past) (items_of (record { steps = steps; given = given }))
-    → IsStateOf (goes_to (told_world s.past) (items_of (record { steps = steps; given = given }))) (record s { stopped = stopped; requests = requests; replies = replies; queue = queue; past = past })
+went : (s : State) (stopped : List ℕ) (requests : List Asked) (replies : List Replied) (queue : List Event) (past : Past) (steps : List Step) (did : Did) → IsSound s → AllStill steps
+    → calls_of past ≡ record { did = did; steps = steps } ∷ calls_of s.past → AllowedOn (told_world s.past) (items_of (record { did = did; steps = steps }))
+    → IsStateOf (goes_to (told_world s.past) (items_of (record { did = did; steps = steps }))) (record s { stopped = stopped; requests = requests; replies = replies; queue = queue; past = past })
     → length requests ≤ length s.requests → length replies ≤ length s.replies → length queue < 2 ^ 32
     → Went s (record s { stopped = stopped; requests = requests; replies = replies; queue = queue; past = past })
-went s stopped requests replies queue past steps given sound still told_is allowed state few few' few_events =
+went s stopped requests replies queue past steps did sound still told_is allowed state few few' few_events =
     let s' : State = record s { stopped = stopped; requests = requests; replies = replies; queue = queue; past = past } in
-    let there : told_world past ≡ goes_to (told_world s.past) (items_of (record { steps = steps; given = given })) = world_by past s.past _ _ told_is refl in
+    let there : told_world past ≡ goes_to (told_world s.past) (items_of (record { did = did; steps = steps })) = world_by past s.past _ _ told_is refl in
     let fewer = sound.few_requests in
     let fewer' = sound.few_replies in
     let sound' : IsSound s' = record {
@@ -125,11 +126,11 @@ went s stopped requests replies queue past steps given sound still told_is allow
       small_answered = sound.small_answered;
       shape = sound.shape;
     } in
-    record { sound = sound'; run = keeps s s' steps given still told_is allowed }
+    record { sound = sound'; run = keeps s s' steps did still told_is allowed }
 
 -- the same call, by equal parts
 pub ordered_as : {order order' : Order} {answer answer' : Told} {before before' : List Called} → order ≡ order' → answer ≡ answer' → before ≡ before'
-    → record { steps = order_steps order answer; given = None } ∷ before ≡ record { steps = order_steps order' answer'; given = None } ∷ before'
+    → record { did = Did.Administered order answer; steps = order_steps order answer } ∷ before ≡ record { did = Did.Administered order' answer'; steps = order_steps order' answer' } ∷ before'
 ordered_as e f g = cc
 
 -- ---- an event that waited is given
@@ -160,7 +161,7 @@ pub record GivesOldest (s s' : State) (event : Event) : Type 0 where
   pub network : network_of s' ≡ after_given (network_of s) event
 
 pub steps_given : (s : State) (event : Event) (rest : List Event) (past : Past) → IsSound s → s.queue ≡ event ∷ rest
-    → calls_of past ≡ record { steps = []; given = Some event } ∷ calls_of s.past
+    → calls_of past ≡ record { did = Did.Delivered event; steps = [] } ∷ calls_of s.past
     → GivesOldest s (record s { queue = rest; past = past }) event
 steps_given s event rest past sound queue told_is =
     let w : World = told_world s.past in
@@ -168,13 +169,13 @@ steps_given s event rest past sound queue told_is =
     let fewer = sound.few_events in
     let many : length s.queue ≡ length (event ∷ rest) = ap length queue in
     let by : Went s (record s { queue = rest; past = past }) =
-    went s s.stopped s.requests s.replies rest past [] (Some event) sound tt told_is (tt, given_allowed w event rest shown)
+    went s s.stopped s.requests s.replies rest past [] (Did.Delivered event) sound tt told_is (tt, given_allowed w event rest shown)
     (given_state w s event rest past sound.state shown) (omega arith) (omega arith) (omega arith) in
     record {
       sound = by.sound;
       run = by.run;
       oldest = (rest, queue);
-      network = ap (λ calls. record (network_of s) { calls = calls; queue = rest }) told_is ∙ ap (λ l. record (network_of s) { calls = record { steps = []; given = Some event } ∷ calls_of s.past; queue = drop 1 l }) (sym queue);
+      network = ap (λ calls. record (network_of s) { calls = calls; queue = rest }) told_is ∙ ap (λ l. record (network_of s) { calls = record { did = Did.Delivered event; steps = [] } ∷ calls_of s.past; queue = drop 1 l }) (sym queue);
     }
 
 -- ---- a node stops
@@ -200,26 +201,26 @@ pub record StopsByOrder (s s' : State) (node : ℕ) : Type 0 where
   pub network : network_of s' ≡ after_stop (network_of s) node
 
 pub steps_stopped : (s : State) (node : ℕ) (past : Past) → IsSound s → length (s.queue ++ Event.Broken node ∷ []) < 2 ^ 32
-    → calls_of past ≡ record { steps = Step.Stop node ∷ []; given = None } ∷ calls_of s.past
+    → calls_of past ≡ record { did = Did.Administered (Order.Stop node) Told.Done; steps = Step.Stop node ∷ [] } ∷ calls_of s.past
     → StopsByOrder s (record s { stopped = s.stopped ++ node ∷ []; requests = filter (asked_elsewhere node) s.requests; replies = filter (replied_elsewhere node) s.replies; queue = s.queue ++ Event.Broken node ∷ []; past = past }) node
 steps_stopped s node past sound few told_is =
     let requests : List Asked = filter (asked_elsewhere node) s.requests in
     let replies : List Replied = filter (replied_elsewhere node) s.replies in
     let queue : List Event = s.queue ++ Event.Broken node ∷ [] in
     let by : Went s (record s { stopped = s.stopped ++ node ∷ []; requests = requests; replies = replies; queue = queue; past = past }) =
-    went s (s.stopped ++ node ∷ []) requests replies queue past (Step.Stop node ∷ []) None sound (tt, refl) told_is (tt, tt)
+    went s (s.stopped ++ node ∷ []) requests replies queue past (Step.Stop node ∷ []) (Did.Administered (Order.Stop node) Told.Done) sound (tt, refl) told_is (tt, tt)
     (stopped_state (told_world s.past) s node past sound.state) (length-filtered (asked_elsewhere node) s.requests) (length-filtered (replied_elsewhere node) s.replies) few in
     record {
       sound = by.sound;
       run = by.run;
       network =
           ap (λ calls. record { shape = s.shape; calls = calls; requests = map asked_number requests; replies = map replied_number replies; queue = queue }) told_is
-          ∙ ap (λ l. record { shape = s.shape; calls = record { steps = Step.Stop node ∷ []; given = None } ∷ calls_of s.past; requests = l; replies = map replied_number replies; queue = queue }) (requests_left s node sound)
-          ∙ ap (λ l. record { shape = s.shape; calls = record { steps = Step.Stop node ∷ []; given = None } ∷ calls_of s.past; requests = requests_elsewhere (network_of s) node; replies = l; queue = queue }) (replies_left s node sound);
+          ∙ ap (λ l. record { shape = s.shape; calls = record { did = Did.Administered (Order.Stop node) Told.Done; steps = Step.Stop node ∷ [] } ∷ calls_of s.past; requests = l; replies = map replied_number replies; queue = queue }) (requests_left s node sound)
+          ∙ ap (λ l. record { shape = s.shape; calls = record { did = Did.Administered (Order.Stop node) Told.Done; steps = Step.Stop node ∷ [] } ∷ calls_of s.past; requests = requests_elsewhere (network_of s) node; replies = l; queue = queue }) (replies_left s node sound);
     }
 
 pub steps_halted : (s : State) (node : ℕ) (past : Past) → IsSound s → s.queue ≡ []
-    → calls_of past ≡ record { steps = Step.Stop node ∷ []; given = Some (Event.Broken node) } ∷ calls_of s.past
+    → calls_of past ≡ record { did = Did.Delivered (Event.Broken node); steps = Step.Stop node ∷ [] } ∷ calls_of s.past
     → Steps s (record s { stopped = s.stopped ++ node ∷ []; requests = filter (asked_elsewhere node) s.requests; replies = filter (replied_elsewhere node) s.replies; past = past }) (halted (network_of s) node)
 steps_halted s node past sound calm told_is =
     let w : World = told_world s.past in
@@ -234,7 +235,7 @@ steps_halted s node past sound calm told_is =
     let state : IsStateOf (after (after w (Took (Step.Stop node))) (Given (Event.Broken node))) (record halfway { queue = s.queue; past = past }) =
     subst (λ l. IsStateOf (after (after w (Took (Step.Stop node))) (Given (Event.Broken node))) (record halfway { queue = l; past = past })) (sym calm) given in
     let by : Went s (record s { stopped = s.stopped ++ node ∷ []; requests = requests; replies = replies; past = past }) =
-    went s (s.stopped ++ node ∷ []) requests replies s.queue past (Step.Stop node ∷ []) (Some (Event.Broken node)) sound (tt, refl) told_is
+    went s (s.stopped ++ node ∷ []) requests replies s.queue past (Step.Stop node ∷ []) (Did.Delivered (Event.Broken node)) sound (tt, refl) told_is
     ((tt, tt), given_allowed (after w (Took (Step.Stop node))) (Event.Broken node) [] shown)
     state (length-filtered (asked_elsewhere node) s.requests) (length-filtered (replied_elsewhere node) s.replies) sound.few_events in
     record {
@@ -242,8 +243,8 @@ steps_halted s node past sound calm told_is =
       run = by.run;
       network =
           ap (λ calls. record { shape = s.shape; calls = calls; requests = map asked_number requests; replies = map replied_number replies; queue = s.queue }) told_is
-          ∙ ap (λ l. record { shape = s.shape; calls = record { steps = Step.Stop node ∷ []; given = Some (Event.Broken node) } ∷ calls_of s.past; requests = l; replies = map replied_number replies; queue = s.queue }) (requests_left s node sound)
-          ∙ ap (λ l. record { shape = s.shape; calls = record { steps = Step.Stop node ∷ []; given = Some (Event.Broken node) } ∷ calls_of s.past; requests = requests_elsewhere (network_of s) node; replies = l; queue = s.queue }) (replies_left s node sound);
+          ∙ ap (λ l. record { shape = s.shape; calls = record { did = Did.Delivered (Event.Broken node); steps = Step.Stop node ∷ [] } ∷ calls_of s.past; requests = l; replies = map replied_number replies; queue = s.queue }) (requests_left s node sound)
+          ∙ ap (λ l. record { shape = s.shape; calls = record { did = Did.Delivered (Event.Broken node); steps = Step.Stop node ∷ [] } ∷ calls_of s.past; requests = requests_elsewhere (network_of s) node; replies = l; queue = s.queue }) (replies_left s node sound);
     }
 
 -- ---- a node runs again
@@ -263,17 +264,17 @@ restarted_state w s node past st = record {
 }
 
 pub steps_restarted : (s : State) (node : ℕ) (past : Past) → IsSound s → is_stopped (network_of s) node ≡ true
-    → calls_of past ≡ record { steps = Step.Restart node [] ∷ []; given = None } ∷ calls_of s.past
+    → calls_of past ≡ record { did = Did.Administered (Order.Restart node) Told.Done; steps = Step.Restart node [] ∷ [] } ∷ calls_of s.past
     → Went s (record s { stopped = filter (λ other. not (other == node)) s.stopped; past = past })
 steps_restarted s node past sound stopped told_is =
-    went s (filter (λ other. not (other == node)) s.stopped) s.requests s.replies s.queue past (Step.Restart node [] ∷ []) None sound (tt, refl) told_is (tt, stopped)
+    went s (filter (λ other. not (other == node)) s.stopped) s.requests s.replies s.queue past (Step.Restart node [] ∷ []) (Did.Administered (Order.Restart node) Told.Done) sound (tt, refl) told_is (tt, stopped)
     (restarted_state (told_world s.past) s node past sound.state) (omega arith) (omega arith) sound.few_events
 
 pub steps_resumed : (s : State) (node : ℕ) (past : Past) → IsSound s → is_stopped (network_of s) node ≡ true
-    → calls_of past ≡ record { steps = Step.Restart node [] ∷ []; given = Some Event.Quiet } ∷ calls_of s.past
+    → calls_of past ≡ record { did = Did.Delivered Event.Quiet; steps = Step.Restart node [] ∷ [] } ∷ calls_of s.past
     → Went s (record s { stopped = filter (λ other. not (other == node)) s.stopped; past = past })
 steps_resumed s node past sound stopped told_is =
     let w : World = told_world s.past in
     let s' : State = record s { stopped = filter (λ other. not (other == node)) s.stopped; past = past } in
-    went s (filter (λ other. not (other == node)) s.stopped) s.requests s.replies s.queue past (Step.Restart node [] ∷ []) (Some Event.Quiet) sound (tt, refl) told_is ((tt, stopped), tt)
+    went s (filter (λ other. not (other == node)) s.stopped) s.requests s.replies s.queue past (Step.Restart node [] ∷ []) (Did.Delivered Event.Quiet) sound (tt, refl) told_is ((tt, stopped), tt)
     (subst (λ (v : World). IsStateOf v s') (sym (after_quiet (after w (Took (Step.Restart node []))))) (restarted_state w s node past sound.state)) (omega arith) (omega arith) sound.few_events

@@ -8,19 +8,19 @@ use Rattle.cell_model.specs.Cells.{join}
 use Rattle.lab_nodes.specs.Holding.{settings_of}
 use Rattle.lab_nodes.specs.Layouts.{Layouts}
 use Rattle.log_manifest.specs.declared.manifest.LogSettings.{LogSettings}
-use Rattle.mem_fabric.specs.Network.{nothing_held}
 use Rattle.mem_fabric.specs.Packing.{IsItemPacked, item_layouts, layouts_after}
 use Rattle.mem_fabric.specs.Sound.{KeepsLayouts}
 use Rattle.mem_fabric.specs.Torn.{is_torn, has_torn}
 use Rattle.world_model.specs.declared.shape.Shape.{Shape}
 use Rattle.world_model.specs.declared.step.Called.{Called}
+use Rattle.world_model.specs.declared.step.Did.{Did}
 use Rattle.world_model.specs.declared.step.Event.{Event}
 use Rattle.world_model.specs.declared.step.Step.{Step}
 use Rattle.world_model.specs.Frames.{frame_in}
 use Rattle.world_model.specs.Lists.{numbered}
 use Rattle.world_model.specs.Record.{Item, Marked, Drawn, Aimed, Took, Given, Withheld, Decided, Record}
 use Rattle.world_model.specs.Told.{items_of, told}
-use Rattle.world_model.specs.World.{Cells, World, Change, Answered, Made, Reply_made, Broken_made, Now_made, world, after, arriving_change, made_by, Allowed, Run}
+use Rattle.world_model.specs.World.{Cells, nothing_held, World, Change, Answered, Made, Reply_made, Broken_made, Now_made, world, after, arriving_change, made_by, Allowed, Run}
 
 -- the world after items
 abbrev pub goes_to : World → Record → World
@@ -159,9 +159,9 @@ steps_cells : (w : World) (steps : List Step) → AllStill steps → (goes_to w 
 steps_cells w [] still = refl
 steps_cells w (step ∷ steps) still = step_cells (goes_to w (map Took steps)) step still.1 ∙ steps_cells w steps still.0
 
-call_cells : (w : World) (steps : List Step) (given : Option Event) → AllStill steps → (goes_to w (items_of (record { steps = steps; given = given }))).cells ≡ w.cells
-call_cells w steps None still = steps_cells w steps still
-call_cells w steps (Some event) still = same_cells (goes_to w (map Took steps)).cells ∙ steps_cells w steps still
+call_cells : (w : World) (steps : List Step) (did : Did) → AllStill steps → (goes_to w (items_of (record { did = did; steps = steps }))).cells ≡ w.cells
+call_cells w steps (Did.Delivered event) still = same_cells (goes_to w (map Took steps)).cells ∙ steps_cells w steps still
+call_cells w steps _ still = steps_cells w steps still
 
 step_allowed : (w : World) (c : Cells) (step : Step) → is_still step ≡ true → Allowed w (Took step) → Allowed (record w { cells = c }) (Took step)
 step_allowed w c (Step.Send from node frame) still a = a
@@ -190,13 +190,13 @@ steps_allowed w c (step ∷ steps) still a = (
       (step_allowed (goes_to w (map Took steps)) (goes_to (record w { cells = c }) (map Took steps)).cells step still.1 a.1),
 )
 
-call_allowed : (w : World) (c : Cells) (steps : List Step) (given : Option Event) → AllStill steps → AllowedOn w (items_of (record { steps = steps; given = given })) → AllowedOn (record w { cells = c }) (items_of (record { steps = steps; given = given }))
-call_allowed w c steps None still a = steps_allowed w c steps still a
-call_allowed w c steps (Some event) still a = (
+call_allowed : (w : World) (c : Cells) (steps : List Step) (did : Did) → AllStill steps → AllowedOn w (items_of (record { did = did; steps = steps })) → AllowedOn (record w { cells = c }) (items_of (record { did = did; steps = steps }))
+call_allowed w c steps (Did.Delivered event) still a = (
   steps_allowed w c steps still a.0,
   subst (λ (v : World). Allowed v (Given event)) (sym (goes_apart w c (map Took steps)))
       (event_allowed (goes_to w (map Took steps)) (goes_to (record w { cells = c }) (map Took steps)).cells event a.1),
 )
+call_allowed w c steps _ still a = steps_allowed w c steps still a
 
 calm_step : (step : Step) → is_still step ≡ true → is_torn step ≡ false
 calm_step (Step.Send from node frame) still = refl
@@ -218,19 +218,19 @@ calm_steps (step ∷ steps) still = rw (calm_step step still.1, calm_steps steps
 -- ---- runs
 
 -- a call of such steps, allowed where nothing was held at first, is allowed from wherever the calls before were a run
-pub run_keeps : (opening : Cells) (calls : List Called) (steps : List Step) (given : Option Event) → AllStill steps → AllowedOn (world nothing_held (told calls)) (items_of (record { steps = steps; given = given }))
-    → Run opening (told calls) → Run opening (told (record { steps = steps; given = given } ∷ calls))
-run_keeps opening calls steps given still allowed run =
+pub run_keeps : (opening : Cells) (calls : List Called) (steps : List Step) (did : Did) → AllStill steps → AllowedOn (world nothing_held (told calls)) (items_of (record { did = did; steps = steps }))
+    → Run opening (told calls) → Run opening (told (record { did = did; steps = steps } ∷ calls))
+run_keeps opening calls steps did still allowed run =
     let w : World = world nothing_held (told calls) in
-    run_on opening (items_of (record { steps = steps; given = given })) (told calls) run
-    (subst (λ (v : World). AllowedOn v (items_of (record { steps = steps; given = given }))) (sym (apart opening nothing_held (told calls))) (call_allowed w (world opening (told calls)).cells steps given still allowed))
+    run_on opening (items_of (record { did = did; steps = steps })) (told calls) run
+    (subst (λ (v : World). AllowedOn v (items_of (record { did = did; steps = steps }))) (sym (apart opening nothing_held (told calls))) (call_allowed w (world opening (told calls)).cells steps did still allowed))
 
-pub cells_keep : (opening : Cells) (calls : List Called) (steps : List Step) (given : Option Event) → AllStill steps → (world opening (told (record { steps = steps; given = given } ∷ calls))).cells ≡ (world opening (told calls)).cells
-cells_keep opening calls steps given still =
-    ap (λ (v : World). v.cells) (world_on opening (items_of (record { steps = steps; given = given })) (told calls)) ∙ call_cells (world opening (told calls)) steps given still
+pub cells_keep : (opening : Cells) (calls : List Called) (steps : List Step) (did : Did) → AllStill steps → (world opening (told (record { did = did; steps = steps } ∷ calls))).cells ≡ (world opening (told calls)).cells
+cells_keep opening calls steps did still =
+    ap (λ (v : World). v.cells) (world_on opening (items_of (record { did = did; steps = steps })) (told calls)) ∙ call_cells (world opening (told calls)) steps did still
 
-pub torn_keeps : (calls : List Called) (steps : List Step) (given : Option Event) → AllStill steps → has_torn (record { steps = steps; given = given } ∷ calls) ≡ has_torn calls
-torn_keeps calls steps given still = ap (λ (b : Bool). b || has_torn calls) (calm_steps steps still)
+pub torn_keeps : (calls : List Called) (steps : List Step) (did : Did) → AllStill steps → has_torn (record { did = did; steps = steps } ∷ calls) ≡ has_torn calls
+torn_keeps calls steps did still = ap (λ (b : Bool). b || has_torn calls) (calm_steps steps still)
 
 -- ---- how records are packed
 
@@ -269,11 +269,11 @@ steps_layouts shape opening first (step ∷ steps) before still =
     ((λ p. (keeps.0 p, step_packed shape w layouts step still.1)), step_layouts (settings_of shape) w layouts step still.1 ∙ keeps.1)
 
 -- a call of such steps leaves how records are packed
-pub layouts_keep : (shape : Shape) (opening : Cells) (first : Layouts) (calls : List Called) (steps : List Step) (given : Option Event) → AllStill steps → KeepsLayouts shape opening first (told calls) (told (record { steps = steps; given = given } ∷ calls))
-layouts_keep shape opening first calls steps None still = steps_layouts shape opening first steps (told calls) still
-layouts_keep shape opening first calls steps (Some event) still =
+pub layouts_keep : (shape : Shape) (opening : Cells) (first : Layouts) (calls : List Called) (steps : List Step) (did : Did) → AllStill steps → KeepsLayouts shape opening first (told calls) (told (record { did = did; steps = steps } ∷ calls))
+layouts_keep shape opening first calls steps (Did.Delivered event) still =
     let keeps : KeepsLayouts shape opening first (told calls) (map Took steps ++ told calls) = steps_layouts shape opening first steps (told calls) still in
     ((λ p. (keeps.0 p, tt)), keeps.1)
+layouts_keep shape opening first calls steps _ still = steps_layouts shape opening first steps (told calls) still
 
 -- ---- doubts
 
@@ -305,17 +305,13 @@ sure_steps w (step ∷ steps) sure calm =
     let both = neither (is_torn step) (list_any is_torn steps) calm in
     sure_step (goes_to w (map Took steps)) step (sure_steps w steps sure both.1) both.0
 
-sure_call : (w : World) (steps : List Step) (given : Option Event) → ((n p : ℕ) → w.doubts n p ≡ None) → list_any is_torn steps ≡ false → (n p : ℕ) → (goes_to w (items_of (record { steps = steps; given = given }))).doubts n p ≡ None
-sure_call w steps None sure calm = sure_steps w steps sure calm
-sure_call w steps (Some event) sure calm = sure_steps w steps sure calm
+sure_call : (w : World) (steps : List Step) (did : Did) → ((n p : ℕ) → w.doubts n p ≡ None) → list_any is_torn steps ≡ false → (n p : ℕ) → (goes_to w (items_of (record { did = did; steps = steps }))).doubts n p ≡ None
+sure_call w steps (Did.Delivered event) sure calm = sure_steps w steps sure calm
+sure_call w steps _ sure calm = sure_steps w steps sure calm
 
 -- nothing is in doubt behind calls that leave nothing so
 pub none_in_doubt : (opening : Cells) (calls : List Called) → has_torn calls ≡ false → (n p : ℕ) → (world opening (told calls)).doubts n p ≡ None
 none_in_doubt opening [] calm n p = refl
 none_in_doubt opening (call ∷ calls) calm n p =
     let both = neither (list_any is_torn call.steps) (has_torn calls) calm in
-    ap (λ (v : World). v.doubts n p) (world_on opening (items_of call) (told calls)) ∙ sure_call (world opening (told calls)) call.steps call.given (none_in_doubt opening calls both.1) both.0 n p
-
--- from equal cells, calls wait for the same events
-pub waits_alike : (opening : Cells) (items : Record) → (world opening items).waiting ≡ (world nothing_held items).waiting
-waits_alike opening items = ap (λ (w : World). w.waiting) (apart opening nothing_held items)
+    ap (λ (v : World). v.doubts n p) (world_on opening (items_of call) (told calls)) ∙ sure_call (world opening (told calls)) call.steps call.did (none_in_doubt opening calls both.1) both.0 n p

@@ -2,7 +2,6 @@
 use Rattle.std.specs.Prelude.{◌≡◌, ℕ, ◌+◌, ◌-◌, ◌%◌, ◌^◌, ◌<◌, ◌≢◌, min, ◌==◌, Bool, true, false, ◌&&◌, nat_le, not, cond, List, [], ◌∷◌, ◌++◌, length, drop, filter, Option, Some, None, slice_index, remove, Result, Ok, Err}
 use Rattle.blob_id.specs.declared.memory.Memory.{Memory}
 use Rattle.cell_model.specs.declared.ask.Reply.{Reply}
-use Rattle.cell_model.specs.declared.cell.Cell.TheVariants.{Absent}
 use Rattle.cell_model.specs.declared.ask.Reply.TheVariants as replied
 use Rattle.cell_model.specs.Asks.{CanAnswer}
 use Rattle.lab_nodes.specs.Nodes.{stands}
@@ -16,17 +15,14 @@ use Rattle.world_model.specs.declared.order.PullCause.{PullCause}
 use Rattle.world_model.specs.declared.order.Told.{Told}
 use Rattle.world_model.specs.declared.shape.Shape.{Shape}
 use Rattle.world_model.specs.declared.step.Called.{Called}
+use Rattle.world_model.specs.declared.step.Did.{Did}
 use Rattle.world_model.specs.declared.step.Event.{Event}
 use Rattle.world_model.specs.declared.step.Event.TheVariants as events
 use Rattle.world_model.specs.declared.step.Step.{Step}
 use Rattle.world_model.specs.declared.step.Step.TheVariants as steps
 use Rattle.world_model.specs.Lists.{numbered}
 use Rattle.world_model.specs.Told.{told}
-use Rattle.world_model.specs.World.{Cells, Request, Answered, World, world, Call, call_at}
-
--- no replica holds anything: what a network tells, and what comes of it, doesn't depend on what its replicas held
-abbrev pub nothing_held : Cells
-nothing_held = λ n p id. Absent
+use Rattle.world_model.specs.World.{Request, Answered, World, nothing_held, world, Call, call_at}
 
 -- What it was opened for, what it told, the numbers of the requests and replies in flight, and the events that were made and not given yet,
 -- the oldest of these first. Frames, replies, the clock, the cells and which nodes are stopped are those of the world that was told.
@@ -212,7 +208,7 @@ moved n reply opened _ = ticked n 0
 
 -- the network after a move, told as one call
 abbrev pub after_move : Network → Moved → Network
-after_move n m = record n { calls = record { steps = m.steps; given = Some m.event } ∷ n.calls; requests = m.requests; replies = m.replies }
+after_move n m = record n { calls = record { did = Did.Delivered m.event; steps = m.steps } ∷ n.calls; requests = m.requests; replies = m.replies }
 
 -- what the request at a place asks
 abbrev pub runs_at : Network → Option ℕ → Option Call
@@ -249,27 +245,27 @@ Does old chosen new (Err memory) = new ≡ old
 
 -- the network after an opening
 abbrev pub after_open : Network → Shape → Network
-after_open n shape = record n { shape = Some shape; calls = record { steps = []; given = None } ∷ n.calls }
+after_open n shape = record n { shape = Some shape; calls = record { did = Did.Opened; steps = [] } ∷ n.calls }
 
 -- the network after one more call that gave no event
-abbrev pub after_steps : Network → List Step → Network
-after_steps n made = record n { calls = record { steps = made; given = None } ∷ n.calls }
+abbrev pub after_steps : Network → Did → List Step → Network
+after_steps n did made = record n { calls = record { did = did; steps = made } ∷ n.calls }
 
 -- the network after a request was sent
 abbrev pub after_sent : Network → ℕ → List ℕ → Network
 after_sent n node frame = record n {
-  calls = record { steps = steps.Send 0 node frame ∷ []; given = None } ∷ n.calls;
+  calls = record { did = Did.Requested node frame; steps = steps.Send 0 node frame ∷ [] } ∷ n.calls;
   requests = n.requests ++ length (world_of n).sent ∷ [];
 }
 
 -- the network after a request was to be sent: one to a stopped node is refused
 abbrev pub after_send : Network → ℕ → List ℕ → Network
-after_send n node frame = cond (is_stopped n node) (after_steps n (steps.Refused node frame ∷ [])) (after_sent n node frame)
+after_send n node frame = cond (is_stopped n node) (after_steps n (Did.Requested node frame) (steps.Refused node frame ∷ [])) (after_sent n node frame)
 
 -- the network after a node was stopped by an order: that its connection broke waits to be given
 abbrev pub after_stop : Network → ℕ → Network
 after_stop n node = record n {
-  calls = record { steps = steps.Stop node ∷ []; given = None } ∷ n.calls;
+  calls = record { did = Did.Administered (Order.Stop node) Told.Done; steps = steps.Stop node ∷ [] } ∷ n.calls;
   requests = requests_elsewhere n node;
   replies = replies_elsewhere n node;
   queue = n.queue ++ events.Broken node ∷ [];
@@ -293,8 +289,8 @@ MayBeTold n order answer = ⊥
 -- the network after an order that was answered so
 abbrev pub after_order : Network → Order → Told → Network
 after_order n (Order.Stop node) Told.Done = after_stop n node
-after_order n (Order.Restart node) Told.Done = after_steps n (steps.Restart node [] ∷ [])
-after_order n order answer = after_steps n []
+after_order n (Order.Restart node) Told.Done = after_steps n (Did.Administered (Order.Restart node) Told.Done) (steps.Restart node [] ∷ [])
+after_order n order answer = after_steps n (Did.Administered order answer) []
 
 -- an order was carried out, or came to nothing
 pub record Obeys (old : Network) (order : Order) (answer : Told) (new : Network) : Type 0 where
@@ -307,4 +303,4 @@ IsOldest queue event = (rest : List Event) × (queue ≡ event ∷ rest)
 
 -- the network after the oldest event that waited was given
 abbrev pub after_given : Network → Event → Network
-after_given n event = record n { calls = record { steps = []; given = Some event } ∷ n.calls; queue = drop 1 n.queue }
+after_given n event = record n { calls = record { did = Did.Delivered event; steps = [] } ∷ n.calls; queue = drop 1 n.queue }

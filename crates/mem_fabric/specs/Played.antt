@@ -8,6 +8,7 @@ use Rattle.world_model.specs.declared.shape.Shape.{Shape}
 use Rattle.world_model.specs.declared.step.Called.{Called}
 use Rattle.world_model.specs.declared.step.Event.{Event}
 use Rattle.world_model.specs.Fabric.{HasNode, TakesOrder}
+use Rattle.world_model.specs.Told.{OrderAnswer, orders_told}
 use Rattle.mem_fabric.specs.Network.{Network, nothing, moved, runs, MayGive, after_open, after_send, after_move, MayBeTold, after_order, IsOldest, after_given}
 
 -- One call on a network. A move that runs a request has its reply with it, and one that restarts a node whether its disks were opened. A call that found no memory did nothing, though it may have
@@ -83,8 +84,18 @@ Plays given n given' n' = (acts : List Act) × DidAll acts × PlaysBy acts given
 abbrev pub Falls : List Move → Network → List Move → Network → Type 0
 Falls given n given' n' = (acts : List Act) × PlaysBy acts given n given' n'
 
+-- the order that an act carries out
+abbrev pub order_in : Act → List OrderAnswer
+order_in (Orders order answer) = record { order = order; answer = answer } ∷ []
+order_in _ = []
+
+-- the orders that acts carry out
+abbrev pub orders_of : List Act → List OrderAnswer
+orders_of [] = []
+orders_of (act ∷ before) = order_in act ++ orders_of before
+
 -- The calls told are those of one opening for the shape, of sends, of orders, of events that waited, and of just these moves, in order and by
--- the rule of moves.
+-- the rule of moves. The orders are those that the calls tell, each once and in order.
 pub record IsPlayed (shape : Shape) (moves : List Move) (calls : List Called) : Type 0 where
   pub acts : List Act
   pub did : DidAll acts
@@ -92,3 +103,4 @@ pub record IsPlayed (shape : Shape) (moves : List Move) (calls : List Called) : 
   pub took : moves ≡ moves_of acts
   pub opened : (all_acted nothing acts).shape ≡ Some shape
   pub told : calls ≡ (all_acted nothing acts).calls
+  pub ordered : orders_told calls ≡ orders_of acts

@@ -10,7 +10,7 @@ use Rattle.mem_fabric.specs.declared.asking.Question.{Question}
 use Rattle.mem_fabric.specs.declared.flight.Asked.{Asked}
 use Rattle.mem_fabric.specs.declared.flight.Replied.{Replied}
 use Rattle.mem_fabric.specs.declared.past.Past.{Past, Begun}
-use Rattle.mem_fabric.specs.Network.{Network, nothing_held, MayGive, runs_at, ran, after_move}
+use Rattle.mem_fabric.specs.Network.{Network, MayGive, runs_at, ran, after_move}
 use Rattle.lab_nodes.specs.Holding.{settings_of}
 use Rattle.lab_nodes.specs.Layouts.{Layouts}
 use Rattle.mem_fabric.specs.Packing.{AllPacked, layouts_after}
@@ -23,7 +23,7 @@ use Rattle.world_model.specs.Lists.{numbered}
 use Rattle.world_model.specs.Record.{Record}
 use Rattle.world_model.specs.Shape.{IsShape}
 use Rattle.world_model.specs.Told.{told}
-use Rattle.world_model.specs.World.{Cells, World, Request, Answered, Made, Shows, world, Run}
+use Rattle.world_model.specs.World.{Cells, World, nothing_held, Request, Answered, Made, Shows, world, Run}
 
 -- what the network was opened for, which nodes are stopped, what is in flight, the events that wait, the counts, the clock, and what was told
 pub record State : Type 0 where

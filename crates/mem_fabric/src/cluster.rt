@@ -7,6 +7,7 @@ ghost use Rattle.mem_fabric.specs.Sound.{State, fresh_state, is_among, network_o
 ghost use Rattle.mem_fabric.specs.Past.{calls_of, order_steps};
 ghost use Rattle.world_model.specs.declared.order.Order.{Order};
 ghost use Rattle.world_model.specs.declared.order.Told.{Told};
+ghost use Rattle.world_model.specs.declared.step.Did.{Did};
 ghost use Rattle.world_model.specs.declared.step.Step.{Step};
 ghost use Rattle.world_model.specs.Fabric.{Awaits};
 ghost use Rattle.world_model.specs.Shape.{IsShape};
@@ -244,7 +245,7 @@ impl Cluster {
     pub fn restart(&mut self, node: u32) -> Told
         requires { is_stopped (network_of self.old) node ≡ true }
         ensures done { result ≡ Told.Done }
-        ensures network { network_of self.new ≡ after_steps (network_of self.old) (Step.Restart node [] ∷ []) }
+        ensures network { network_of self.new ≡ after_steps (network_of self.old) (Did.Administered (Order.Restart node) Told.Done) (Step.Restart node [] ∷ []) }
         ensures run { KeepsState self.old self.new }
         ensures nodes { RunsAgain self.old node self.new }
     {
@@ -261,7 +262,7 @@ impl Cluster {
     pub fn stay(&mut self, order: Order, answer: Told) -> Told
         requires { order_steps order answer ≡ [] }
         ensures answer { result ≡ answer }
-        ensures network { network_of self.new ≡ after_steps (network_of self.old) [] }
+        ensures network { network_of self.new ≡ after_steps (network_of self.old) (Did.Administered order answer) [] }
         ensures run { KeepsState self.old self.new }
         ensures nodes { SameNodes self.old self.new }
     {

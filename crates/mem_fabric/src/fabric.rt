@@ -17,7 +17,7 @@ ghost use Rattle.mem_fabric.specs.Runs.{RunsFrom};
 ghost use Rattle.mem_fabric.specs.Sound.{fresh_state, network_of};
 ghost use Rattle.mem_fabric.specs.PlayedLaws.{plays_nothing, plays_on, falls_as_plays, falls_on, fresh_told};
 ghost use Rattle.mem_fabric.specs.Torn.{has_torn};
-ghost use Rattle.world_model.specs.Fabric.{DidNothing, Gave, HasNode, KeepsRun, TakesOrder, Tells, TellsOrder, TellsSend};
+ghost use Rattle.world_model.specs.Fabric.{Gave, HasNode, IsOpening, KeepsRun, NoStepWhereOneWaited, TakesOrder, Tells, TellsOrder, TellsSend};
 ghost use Rattle.world_model.specs.declared.order.PullCause.{PullCause};
 ghost use Rattle.world_model.specs.declared.order.Refusal.{Refusal};
 ghost use Rattle.world_model.specs.declared.order.Told.{Told};
@@ -150,7 +150,7 @@ where
         ensures later { self.old.faults ≤ self.new.faults }
         ensures cause { IsErrOf result StartFault.Failed → Rose self.old.faults self.new.faults }
         ensures opened { OnOk result (cond self.new.opened self.new.cluster.shape None ≡ Some shape.now) }
-        ensures told { OnOk result (Tells (Some (calls_of self.old.cluster.past)) (Some (calls_of self.new.cluster.past)) DidNothing) }
+        ensures told { OnOk result (Tells (Some (calls_of self.old.cluster.past)) (Some (calls_of self.new.cluster.past)) IsOpening) }
         ensures err { OnErr result (Some (calls_of self.new.cluster.past) ≡ Some (calls_of self.old.cluster.past)) }
         ensures run { OnOk result (KeepsRun (RunsFrom B.Disk.tells B.Disk.content B.home (calls_of self.old.cluster.past) self.old.nodes shape.now folder.now) (RunsFrom B.Disk.tells B.Disk.content B.home (calls_of self.new.cluster.past) self.new.nodes shape.now folder.now)) }
         ensures goes { OnOk result (Plays (M.given self.old.moves) (network_of self.old.cluster) (M.given self.new.moves) (network_of self.new.cluster) × M.same self.old.moves self.new.moves × (M.seeds self.new.moves ≡ M.seeds self.old.moves) × KeepsBays B.tells B.out B.same self.old.nodes self.new.nodes × KeepsPacking B.Disk.tells B.Disk.content B.home (calls_of self.old.cluster.past) self.old.nodes (calls_of self.new.cluster.past) self.new.nodes) }
@@ -218,6 +218,7 @@ where
         ensures later { self.old.faults ≤ self.new.faults }
         ensures opened { cond self.new.opened self.new.cluster.shape None ≡ cond self.old.opened self.old.cluster.shape None }
         ensures told { IfOk result (λ event. Tells (Some (calls_of self.old.cluster.past)) (Some (calls_of self.new.cluster.past)) (Gave event)) }
+        ensures waited { OnOk result (NoStepWhereOneWaited (Some (calls_of self.old.cluster.past)) (Some (calls_of self.new.cluster.past))) }
         ensures err { OnErr result (Some (calls_of self.new.cluster.past) ≡ Some (calls_of self.old.cluster.past)) }
         ensures run { (cluster : Shape) (place : List ℕ) → KeepsRun (RunsFrom B.Disk.tells B.Disk.content B.home (calls_of self.old.cluster.past) self.old.nodes cluster place) (RunsFrom B.Disk.tells B.Disk.content B.home (calls_of self.new.cluster.past) self.new.nodes cluster place) }
         ensures goes { OnOk result (Plays (M.given self.old.moves) (network_of self.old.cluster) (M.given self.new.moves) (network_of self.new.cluster) × M.same self.old.moves self.new.moves × (M.seeds self.new.moves ≡ M.seeds self.old.moves) × KeepsBays B.tells B.out B.same self.old.nodes self.new.nodes × KeepsPacking B.Disk.tells B.Disk.content B.home (calls_of self.old.cluster.past) self.old.nodes (calls_of self.new.cluster.past) self.new.nodes) }

@@ -101,4 +101,4 @@ pub turned : (old new : RouterView) (heard : Heard) (event : Event) (told told' 
     → heard ≡ heard_of event → Ties (Stands old) told marks → Ties (Owns new) told' marks
 turned old new heard event told told' marks tells takes e ties =
     tie_call (Stands old) (Owns new) (Gave event) told told' marks tells
-    (λ call gave r stands. subst (λ (l : Record). Owns new (l ++ r)) (sym (items_gave event call gave)) (takes event call.steps r e gave.0 stands.owns)) ties
+    (λ call gave r stands. subst (λ (l : Record). Owns new (l ++ r)) (sym (items_gave event call gave)) (takes event call.steps r e gave.1 stands.owns)) ties

@@ -9,10 +9,11 @@ use Rattle.world_model.specs.World.{Cells, World, world, after, Allowed, Run}
 use Rattle.world_model.specs.declared.history.HistoryMark.{HistoryMark}
 use Rattle.world_model.specs.declared.history.HistoryMark.TheVariants.{Drew}
 use Rattle.world_model.specs.declared.step.Called.{Called}
+use Rattle.world_model.specs.declared.step.Did.{Did}
 use Rattle.world_model.specs.declared.step.Event.{Event}
 use Rattle.world_model.specs.declared.step.Step.{Step}
 use Rattle.world_model.specs.Ordered.{marks_of}
-use Rattle.world_model.specs.Told.{Placed, IsRising, unplaced, items_of, placed_at, weave, AllWithin, told, is_session, AllSession, OnlySession, place}
+use Rattle.world_model.specs.Told.{Placed, IsRising, unplaced, given_by, items_of, placed_at, weave, AllWithin, told, is_session, AllSession, OnlySession, place}
 use Rattle.world_model.proofs.CellLaws.{number_true, same_number}
 
 not_same : (a b : ℕ) → b < a → (a == b) ≡ false
@@ -152,11 +153,11 @@ marks_took (step ∷ steps) r = marks_took steps r
 
 -- what a call told has no marks
 marks_call : (call : Called) (r : Record) → marks_of (items_of call ++ r) ≡ marks_of r
-marks_call call r = go call.given
+marks_call call r = go call.did
   where
-    go : (o : Option Event) → marks_of ((elim o [ Some event ↦ Given event ∷ map Took call.steps | None ↦ map Took call.steps ]) ++ r) ≡ marks_of r
-    go None = marks_took call.steps r
-    go (Some event) = marks_took call.steps r
+    go : (did : Did) → marks_of ((given_by did ++ map Took call.steps) ++ r) ≡ marks_of r
+    go (Did.Delivered event) = marks_took call.steps r
+    go _ = marks_took call.steps r
 
 marks_none : (calls : List Called) → marks_of (weave [] calls) ≡ []
 marks_none [] = refl

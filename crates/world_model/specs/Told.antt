@@ -1,6 +1,9 @@
 -- What a network tells, and the record that is woven of it and of what a session keeps. All lists have the newest first.
 use Rattle.std.specs.Prelude.{◌≡◌, ℕ, ◌≤◌, ◌==◌, Bool, true, false, ◌&&◌, not, cond, List, [], ◌∷◌, ◌++◌, length, map, Option, Some, None}
+use Rattle.world_model.specs.declared.order.Order.{Order}
+use Rattle.world_model.specs.declared.order.Told.{Told}
 use Rattle.world_model.specs.declared.step.Called.{Called}
+use Rattle.world_model.specs.declared.step.Did.{Did}
 use Rattle.world_model.specs.declared.step.Step.{Step}
 use Rattle.req_frame.specs.declared.frame.Frame.{Frame}
 use Rattle.world_model.specs.Frames.{frame_in}
@@ -12,12 +15,29 @@ pub record Placed : Type 0 where
   pub item : Item
   pub calls : ℕ
 
+-- the event that a call gave
+abbrev pub given_by : Did → Record
+given_by (Did.Delivered event) = Given event ∷ []
+given_by _ = []
+
 -- what one call on the network told: its steps, and behind them the event that it gave
 abbrev pub items_of : Called → Record
-items_of call = elim call.given [
-  | Some event ↦ Given event ∷ map Took call.steps
-  | None ↦ map Took call.steps
-]
+items_of call = given_by call.did ++ map Took call.steps
+
+-- an order, and how it was answered
+pub record OrderAnswer : Type 0 where
+  pub order : Order
+  pub answer : Told
+
+-- the order that a call carried out
+abbrev pub order_by : Did → List OrderAnswer
+order_by (Did.Administered order answer) = record { order = order; answer = answer } ∷ []
+order_by _ = []
+
+-- the orders that calls carried out
+abbrev pub orders_told : List Called → List OrderAnswer
+orders_told [] = []
+orders_told (call ∷ before) = order_by call.did ++ orders_told before
 
 -- the items that stand behind so many calls
 abbrev pub placed_at : ℕ → List Placed → Record

@@ -25,6 +25,10 @@ same_id a b = bytes_eq a b
 abbrev pub Cells : Type 0
 Cells = ℕ → ℕ → BlobId → Cell
 
+-- No replica holds anything. What a network tells of requests, replies and events doesn't depend on what its replicas hold.
+abbrev pub nothing_held : Cells
+nothing_held = λ n p id. Absent
+
 -- a request as it was sent; 0 is the router, every other number a node
 pub record Request : Type 0 where
   pub from : ℕ

@@ -4,7 +4,7 @@ ghost use Rattle.std.specs.Prelude.{◌≡◌, ℕ, ◌≤◌, Bool, true, List,
 ghost use Rattle.outside.specs.Causes.{Rose};
 ghost use Rattle.world_model.specs.declared.shape.Shape.{Shape};
 ghost use Rattle.world_model.specs.declared.step.Called.{Called};
-ghost use Rattle.world_model.specs.Fabric.{Awaits, DidNothing, Gave, HasNode, IsToldRun, KeepsRun, TakesOrder, Tells, TellsOrder, TellsSend};
+ghost use Rattle.world_model.specs.Fabric.{Awaits, Gave, HasNode, IsOpening, IsToldRun, KeepsRun, NoStepWhereOneWaited, TakesOrder, Tells, TellsOrder, TellsSend};
 ghost use Rattle.world_model.specs.Shape.{IsShape};
 ghost use Rattle.world_model.specs.World.{Cells};
 
@@ -70,7 +70,7 @@ pub trait Fabric {
         ensures later { faults self.old ≤ faults self.new }
         ensures cause { IsErrOf result StartFault.Failed → Rose (faults self.old) (faults self.new) }
         ensures opened { OnOk result (opened self.new ≡ Some shape.now) }
-        ensures told { OnOk result (Tells (told self.old) (told self.new) DidNothing) }
+        ensures told { OnOk result (Tells (told self.old) (told self.new) IsOpening) }
         ensures err { OnErr result (told self.new ≡ told self.old) }
         ensures run { OnOk result (KeepsRun (runs self.old shape.now folder.now) (runs self.new shape.now folder.now)) }
         ensures goes { OnOk result (goes self.old self.new) }
@@ -94,6 +94,7 @@ pub trait Fabric {
         ensures later { faults self.old ≤ faults self.new }
         ensures opened { opened self.new ≡ opened self.old }
         ensures told { IfOk result (λ event. Tells (told self.old) (told self.new) (Gave event)) }
+        ensures waited { OnOk result (NoStepWhereOneWaited (told self.old) (told self.new)) }
         ensures err { OnErr result (told self.new ≡ told self.old) }
         ensures run { (cluster : Shape) (place : List ℕ) → KeepsRun (runs self.old cluster place) (runs self.new cluster place) }
         ensures goes { OnOk result (goes self.old self.new) }

@@ -51,4 +51,4 @@ pub use order::{Order, PullCause, Refusal, Told, What};
 pub use schedules::{ListMoves, SeedMoves};
 pub use seeds::Seeds;
 pub use shape::{LogNumbers, Shape, node_of};
-pub use step::{Called, Event, Numbers, Step, Steps};
+pub use step::{Called, Did, Event, Numbers, Step, Steps};

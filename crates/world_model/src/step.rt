@@ -1,5 +1,6 @@
 //! What happens on the network, and what a router is told of it.
 
+use crate::order::{Order, Told};
 use blob_id::{Bytes, Listed};
 use cell_model::Reply;
 
@@ -76,9 +77,22 @@ pub enum Event {
     Quiet,
 }
 
-/// What one call on a network did: its steps, the newest first, and the event that it gave.
+/// What a call on a network was.
+#[derive(Debug, Drop)]
+pub enum Did {
+    /// It was opened.
+    Opened,
+    /// A request went to a node, or couldn't be sent.
+    Requested { node: u32, frame: Bytes },
+    /// An order was answered so.
+    Administered { order: Order, told: Told },
+    /// An event was given.
+    Delivered { event: Event },
+}
+
+/// One call on a network: what it was, and its steps, the newest first.
 #[derive(Debug, Drop)]
 pub struct Called {
+    pub did: Did,
     pub steps: Steps,
-    pub given: Option<Event>,
 }

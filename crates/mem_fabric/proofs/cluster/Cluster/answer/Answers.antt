@@ -16,6 +16,7 @@ use Rattle.mem_fabric.proofs.cluster.Cluster.answer.Goals as goal
 use Rattle.req_frame.specs.declared.frame.Body.{Body}
 use Rattle.world_model.specs.declared.step.Event.{Event}
 use Rattle.world_model.specs.World.{Call}
+use Rattle.world_model.specs.declared.step.Did.{Did}
 
 pub invariant_of-self-2 : goal.invariant_of-self-2
 invariant_of-self-2 g c =
@@ -37,7 +38,7 @@ invariant_of-self-2 g c =
     let past : Past = views.Ran c.of.result c.of-2.result c.of-3.result in
     let replied : Replied = record { number = old.answered; node = asked.node; frame = record { correlation = question.correlation; partition = question.partition; body = Body.Answer reply } } in
     let new : State = record old { requests = c.take_out.new.items.items; replies = c.add.new.items.items; answered = c.in-Some.answered; past = past } in
-    let told_is : calls_of past ≡ record { steps = run_step asked.number reply ∷ []; given = Some Event.Quiet } ∷ calls_of c.self.inside.past = ran_as c.of-2.ensures c.of-3.ensures (ap (λ (p : Past). calls_of p) c.of.ensures) in
+    let told_is : calls_of past ≡ record { did = Did.Delivered Event.Quiet; steps = run_step asked.number reply ∷ [] } ∷ calls_of c.self.inside.past = ran_as c.of-2.ensures c.of-3.ensures (ap (λ (p : Past). calls_of p) c.of.ensures) in
     let within : c.args.place < length old.requests = subst (λ (s : State). c.args.place < length s.requests) (sym c.self.view_is) c.requires.place in
     let added : c.add.new.items.items ≡ old.replies ++ replied ∷ [] = c.add.ensures ∙ ap (λ (l : List Replied). l ++ replied ∷ []) c.reserve.ensures.items in
     let more : c.in-Some.answered ≡ old.answered + 1 = omega (arith, c.in-Some.ensures) in
@@ -82,7 +83,7 @@ returns-clause-made g c =
     let past : Past = views.Ran c.of.result c.of-2.result c.of-3.result in
     let replied : Replied = record { number = old.answered; node = asked.node; frame = record { correlation = question.correlation; partition = question.partition; body = Body.Answer reply } } in
     let new : State = record old { requests = c.take_out.new.items.items; replies = c.add.new.items.items; answered = c.in-Some.answered; past = past } in
-    let told_is : calls_of past ≡ record { steps = run_step asked.number reply ∷ []; given = Some Event.Quiet } ∷ calls_of c.self.inside.past = ran_as c.of-2.ensures c.of-3.ensures (ap (λ (p : Past). calls_of p) c.of.ensures) in
+    let told_is : calls_of past ≡ record { did = Did.Delivered Event.Quiet; steps = run_step asked.number reply ∷ [] } ∷ calls_of c.self.inside.past = ran_as c.of-2.ensures c.of-3.ensures (ap (λ (p : Past). calls_of p) c.of.ensures) in
     let within : c.args.place < length old.requests = subst (λ (s : State). c.args.place < length s.requests) (sym c.self.view_is) c.requires.place in
     let added : c.add.new.items.items ≡ old.replies ++ replied ∷ [] = c.add.ensures ∙ ap (λ (l : List Replied). l ++ replied ∷ []) c.reserve.ensures.items in
     let more : c.in-Some.answered ≡ old.answered + 1 = omega (arith, c.in-Some.ensures) in
@@ -127,7 +128,7 @@ returns-clause-goes g c =
     let past : Past = views.Ran c.of.result c.of-2.result c.of-3.result in
     let replied : Replied = record { number = old.answered; node = asked.node; frame = record { correlation = question.correlation; partition = question.partition; body = Body.Answer reply } } in
     let new : State = record old { requests = c.take_out.new.items.items; replies = c.add.new.items.items; answered = c.in-Some.answered; past = past } in
-    let told_is : calls_of past ≡ record { steps = run_step asked.number reply ∷ []; given = Some Event.Quiet } ∷ calls_of c.self.inside.past = ran_as c.of-2.ensures c.of-3.ensures (ap (λ (p : Past). calls_of p) c.of.ensures) in
+    let told_is : calls_of past ≡ record { did = Did.Delivered Event.Quiet; steps = run_step asked.number reply ∷ [] } ∷ calls_of c.self.inside.past = ran_as c.of-2.ensures c.of-3.ensures (ap (λ (p : Past). calls_of p) c.of.ensures) in
     let within : c.args.place < length old.requests = subst (λ (s : State). c.args.place < length s.requests) (sym c.self.view_is) c.requires.place in
     let added : c.add.new.items.items ≡ old.replies ++ replied ∷ [] = c.add.ensures ∙ ap (λ (l : List Replied). l ++ replied ∷ []) c.reserve.ensures.items in
     let more : c.in-Some.answered ≡ old.answered + 1 = omega (arith, c.in-Some.ensures) in

@@ -11,6 +11,7 @@ use Rattle.mem_fabric.proofs.cluster.Cluster.break_off.Goals as goal
 use Rattle.std.specs.Prelude.{filter}
 use Rattle.world_model.specs.declared.step.Event.{Event}
 use Rattle.world_model.specs.declared.step.Step.{Step}
+use Rattle.world_model.specs.declared.step.Did.{Did}
 
 pub invariant_of-self : goal.invariant_of-self
 invariant_of-self c =
@@ -28,7 +29,7 @@ invariant_of-self c =
     let past : Past = views.Cut c.of.result c.of-2.result in
     let new : State = record old { requests = c.drop_asked.new.requests.items; replies = c.drop_replied.new.replies.items; past = past } in
     let calm : old.queue ≡ [] = subst (λ (s : State). s.queue ≡ []) (sym c.self.view_is) c.requires.calm in
-    let told_is : calls_of past ≡ record { steps = Step.Cut c.args.node ∷ []; given = Some (Event.Broken c.args.node) } ∷ calls_of c.self.inside.past = cc in
+    let told_is : calls_of past ≡ record { did = Did.Delivered (Event.Broken c.args.node); steps = Step.Cut c.args.node ∷ [] } ∷ calls_of c.self.inside.past = cc in
     let steps : Steps old new (broken (network_of old) c.args.node) =
     subst (λ (l : List Replied). Steps old (record old { requests = c.drop_asked.new.requests.items; replies = l; past = past }) (broken (network_of old) c.args.node)) (sym c.drop_replied.ensures)
     (subst (λ (l : List Asked). Steps old (record old { requests = l; replies = filter (replied_elsewhere c.args.node) old.replies; past = past }) (broken (network_of old) c.args.node)) (sym c.drop_asked.ensures)
@@ -51,7 +52,7 @@ returns-clause-network c =
     let past : Past = views.Cut c.of.result c.of-2.result in
     let new : State = record old { requests = c.drop_asked.new.requests.items; replies = c.drop_replied.new.replies.items; past = past } in
     let calm : old.queue ≡ [] = subst (λ (s : State). s.queue ≡ []) (sym c.self.view_is) c.requires.calm in
-    let told_is : calls_of past ≡ record { steps = Step.Cut c.args.node ∷ []; given = Some (Event.Broken c.args.node) } ∷ calls_of c.self.inside.past = cc in
+    let told_is : calls_of past ≡ record { did = Did.Delivered (Event.Broken c.args.node); steps = Step.Cut c.args.node ∷ [] } ∷ calls_of c.self.inside.past = cc in
     let steps : Steps old new (broken (network_of old) c.args.node) =
     subst (λ (l : List Replied). Steps old (record old { requests = c.drop_asked.new.requests.items; replies = l; past = past }) (broken (network_of old) c.args.node)) (sym c.drop_replied.ensures)
     (subst (λ (l : List Asked). Steps old (record old { requests = l; replies = filter (replied_elsewhere c.args.node) old.replies; past = past }) (broken (network_of old) c.args.node)) (sym c.drop_asked.ensures)
@@ -74,7 +75,7 @@ returns-clause-run c =
     let past : Past = views.Cut c.of.result c.of-2.result in
     let new : State = record old { requests = c.drop_asked.new.requests.items; replies = c.drop_replied.new.replies.items; past = past } in
     let calm : old.queue ≡ [] = subst (λ (s : State). s.queue ≡ []) (sym c.self.view_is) c.requires.calm in
-    let told_is : calls_of past ≡ record { steps = Step.Cut c.args.node ∷ []; given = Some (Event.Broken c.args.node) } ∷ calls_of c.self.inside.past = cc in
+    let told_is : calls_of past ≡ record { did = Did.Delivered (Event.Broken c.args.node); steps = Step.Cut c.args.node ∷ [] } ∷ calls_of c.self.inside.past = cc in
     let steps : Steps old new (broken (network_of old) c.args.node) =
     subst (λ (l : List Replied). Steps old (record old { requests = c.drop_asked.new.requests.items; replies = l; past = past }) (broken (network_of old) c.args.node)) (sym c.drop_replied.ensures)
     (subst (λ (l : List Asked). Steps old (record old { requests = l; replies = filter (replied_elsewhere c.args.node) old.replies; past = past }) (broken (network_of old) c.args.node)) (sym c.drop_asked.ensures)

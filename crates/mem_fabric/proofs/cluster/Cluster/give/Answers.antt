@@ -6,6 +6,7 @@ use Rattle.mem_fabric.specs.Sound.{State, KeepsState}
 use Rattle.mem_fabric.proofs.Stops.{GivesOldest, steps_given, first_of}
 use Rattle.mem_fabric.proofs.cluster.Cluster.give.Goals as goal
 use Rattle.world_model.specs.declared.step.Event.{Event}
+use Rattle.world_model.specs.declared.step.Did.{Did}
 
 pub invariant_of-self : goal.invariant_of-self
 invariant_of-self c =
@@ -24,7 +25,7 @@ invariant_of-self c =
     let rest : List Event = c.remove-event.new.self.items in
     let past : Past = views.Gave c.of.result c.of-2.result in
     let new : State = record old { queue = rest; past = past } in
-    let told_is : calls_of past ≡ record { steps = []; given = Some event } ∷ calls_of c.self.inside.past = cc in
+    let told_is : calls_of past ≡ record { did = Did.Delivered event; steps = [] } ∷ calls_of c.self.inside.past = cc in
     let some : 0 < length old.queue = subst (λ (s : State). 0 < length s.queue) (sym c.self.view_is) c.requires in
     let steps : GivesOldest old new event =
     steps_given old event rest past c.self.invariant (first_of old.queue event rest some c.remove-event.ensures.value c.remove-event.ensures.items) told_is in
@@ -47,7 +48,7 @@ returns-clause-run c =
     let rest : List Event = c.remove-event.new.self.items in
     let past : Past = views.Gave c.of.result c.of-2.result in
     let new : State = record old { queue = rest; past = past } in
-    let told_is : calls_of past ≡ record { steps = []; given = Some event } ∷ calls_of c.self.inside.past = cc in
+    let told_is : calls_of past ≡ record { did = Did.Delivered event; steps = [] } ∷ calls_of c.self.inside.past = cc in
     let some : 0 < length old.queue = subst (λ (s : State). 0 < length s.queue) (sym c.self.view_is) c.requires in
     let steps : GivesOldest old new event =
     steps_given old event rest past c.self.invariant (first_of old.queue event rest some c.remove-event.ensures.value c.remove-event.ensures.items) told_is in

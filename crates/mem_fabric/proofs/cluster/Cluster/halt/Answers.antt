@@ -12,6 +12,7 @@ use Rattle.mem_fabric.proofs.cluster.Cluster.halt.Goals as goal
 use Rattle.std.specs.Prelude.{filter}
 use Rattle.world_model.specs.declared.step.Event.{Event}
 use Rattle.world_model.specs.declared.step.Step.{Step}
+use Rattle.world_model.specs.declared.step.Did.{Did}
 
 pub invariant_of-self-2 : goal.invariant_of-self-2
 invariant_of-self-2 c =
@@ -30,7 +31,7 @@ invariant_of-self-2 c =
     let requests : List Asked = filter (asked_elsewhere c.args.node) old.requests in
     let replies : List Replied = filter (replied_elsewhere c.args.node) old.replies in
     let new : State = record old { stopped = c.silence.new.stopped.items; requests = c.silence.new.requests.items; replies = c.silence.new.replies.items; past = past } in
-    let told_is : calls_of past ≡ record { steps = Step.Stop c.args.node ∷ []; given = Some (Event.Broken c.args.node) } ∷ calls_of c.self.inside.past = cc in
+    let told_is : calls_of past ≡ record { did = Did.Delivered (Event.Broken c.args.node); steps = Step.Stop c.args.node ∷ [] } ∷ calls_of c.self.inside.past = cc in
     let calm : old.queue ≡ [] = subst (λ (s : State). s.queue ≡ []) (sym c.self.view_is) c.requires.calm in
     let more : c.silence.new.stopped.items ≡ old.stopped ++ c.args.node ∷ [] = c.silence.ensures.stopped ∙ ap (λ (l : List ℕ). l ++ c.args.node ∷ []) c.reserve.ensures.items in
     let steps : Steps old new (halted (network_of old) c.args.node) =
@@ -57,7 +58,7 @@ returns-clause-network c =
     let requests : List Asked = filter (asked_elsewhere c.args.node) old.requests in
     let replies : List Replied = filter (replied_elsewhere c.args.node) old.replies in
     let new : State = record old { stopped = c.silence.new.stopped.items; requests = c.silence.new.requests.items; replies = c.silence.new.replies.items; past = past } in
-    let told_is : calls_of past ≡ record { steps = Step.Stop c.args.node ∷ []; given = Some (Event.Broken c.args.node) } ∷ calls_of c.self.inside.past = cc in
+    let told_is : calls_of past ≡ record { did = Did.Delivered (Event.Broken c.args.node); steps = Step.Stop c.args.node ∷ [] } ∷ calls_of c.self.inside.past = cc in
     let calm : old.queue ≡ [] = subst (λ (s : State). s.queue ≡ []) (sym c.self.view_is) c.requires.calm in
     let more : c.silence.new.stopped.items ≡ old.stopped ++ c.args.node ∷ [] = c.silence.ensures.stopped ∙ ap (λ (l : List ℕ). l ++ c.args.node ∷ []) c.reserve.ensures.items in
     let steps : Steps old new (halted (network_of old) c.args.node) =
@@ -84,7 +85,7 @@ returns-clause-run c =
     let requests : List Asked = filter (asked_elsewhere c.args.node) old.requests in
     let replies : List Replied = filter (replied_elsewhere c.args.node) old.replies in
     let new : State = record old { stopped = c.silence.new.stopped.items; requests = c.silence.new.requests.items; replies = c.silence.new.replies.items; past = past } in
-    let told_is : calls_of past ≡ record { steps = Step.Stop c.args.node ∷ []; given = Some (Event.Broken c.args.node) } ∷ calls_of c.self.inside.past = cc in
+    let told_is : calls_of past ≡ record { did = Did.Delivered (Event.Broken c.args.node); steps = Step.Stop c.args.node ∷ [] } ∷ calls_of c.self.inside.past = cc in
     let calm : old.queue ≡ [] = subst (λ (s : State). s.queue ≡ []) (sym c.self.view_is) c.requires.calm in
     let more : c.silence.new.stopped.items ≡ old.stopped ++ c.args.node ∷ [] = c.silence.ensures.stopped ∙ ap (λ (l : List ℕ). l ++ c.args.node ∷ []) c.reserve.ensures.items in
     let steps : Steps old new (halted (network_of old) c.args.node) =

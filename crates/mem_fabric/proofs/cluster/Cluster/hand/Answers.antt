@@ -9,6 +9,7 @@ use Rattle.mem_fabric.proofs.Sounds.{Hands, steps_handed}
 use Rattle.mem_fabric.proofs.cluster.Cluster.hand.Goals as goal
 use Rattle.world_model.specs.declared.step.Event.{Event}
 use Rattle.world_model.specs.declared.step.Step.{Step}
+use Rattle.world_model.specs.declared.step.Did.{Did}
 
 pub invariant_of-self : goal.invariant_of-self
 invariant_of-self c =
@@ -29,7 +30,7 @@ invariant_of-self c =
     let past : Past = views.Handed c.of.result c.of-2.result c.of-3.result c.of-4.result in
     let new : State = record old { replies = c.take_out.new.items.items; past = past } in
     let calm : old.queue ≡ [] = subst (λ (s : State). s.queue ≡ []) (sym c.self.view_is) c.requires.calm in
-    let told_is : calls_of past ≡ record { steps = Step.Hand replied.number ∷ []; given = Some event } ∷ calls_of c.self.inside.past = cc in
+    let told_is : calls_of past ≡ record { did = Did.Delivered event; steps = Step.Hand replied.number ∷ [] } ∷ calls_of c.self.inside.past = cc in
     let within : c.args.place < length old.replies = subst (λ (s : State). c.args.place < length s.replies) (sym c.self.view_is) c.requires.place in
     let move : State → Moved = λ s. handed (network_of s) (Some c.args.place) c.args.stays in
     let steps : Hands old new c.args.place c.args.stays event =
@@ -56,7 +57,7 @@ returns-clause-made c =
     let past : Past = views.Handed c.of.result c.of-2.result c.of-3.result c.of-4.result in
     let new : State = record old { replies = c.take_out.new.items.items; past = past } in
     let calm : old.queue ≡ [] = subst (λ (s : State). s.queue ≡ []) (sym c.self.view_is) c.requires.calm in
-    let told_is : calls_of past ≡ record { steps = Step.Hand replied.number ∷ []; given = Some event } ∷ calls_of c.self.inside.past = cc in
+    let told_is : calls_of past ≡ record { did = Did.Delivered event; steps = Step.Hand replied.number ∷ [] } ∷ calls_of c.self.inside.past = cc in
     let within : c.args.place < length old.replies = subst (λ (s : State). c.args.place < length s.replies) (sym c.self.view_is) c.requires.place in
     let move : State → Moved = λ s. handed (network_of s) (Some c.args.place) c.args.stays in
     let steps : Hands old new c.args.place c.args.stays event =
@@ -83,7 +84,7 @@ returns-clause-network c =
     let past : Past = views.Handed c.of.result c.of-2.result c.of-3.result c.of-4.result in
     let new : State = record old { replies = c.take_out.new.items.items; past = past } in
     let calm : old.queue ≡ [] = subst (λ (s : State). s.queue ≡ []) (sym c.self.view_is) c.requires.calm in
-    let told_is : calls_of past ≡ record { steps = Step.Hand replied.number ∷ []; given = Some event } ∷ calls_of c.self.inside.past = cc in
+    let told_is : calls_of past ≡ record { did = Did.Delivered event; steps = Step.Hand replied.number ∷ [] } ∷ calls_of c.self.inside.past = cc in
     let within : c.args.place < length old.replies = subst (λ (s : State). c.args.place < length s.replies) (sym c.self.view_is) c.requires.place in
     let move : State → Moved = λ s. handed (network_of s) (Some c.args.place) c.args.stays in
     let steps : Hands old new c.args.place c.args.stays event =
@@ -110,7 +111,7 @@ returns-clause-run c =
     let past : Past = views.Handed c.of.result c.of-2.result c.of-3.result c.of-4.result in
     let new : State = record old { replies = c.take_out.new.items.items; past = past } in
     let calm : old.queue ≡ [] = subst (λ (s : State). s.queue ≡ []) (sym c.self.view_is) c.requires.calm in
-    let told_is : calls_of past ≡ record { steps = Step.Hand replied.number ∷ []; given = Some event } ∷ calls_of c.self.inside.past = cc in
+    let told_is : calls_of past ≡ record { did = Did.Delivered event; steps = Step.Hand replied.number ∷ [] } ∷ calls_of c.self.inside.past = cc in
     let within : c.args.place < length old.replies = subst (λ (s : State). c.args.place < length s.replies) (sym c.self.view_is) c.requires.place in
     let move : State → Moved = λ s. handed (network_of s) (Some c.args.place) c.args.stays in
     let steps : Hands old new c.args.place c.args.stays event =

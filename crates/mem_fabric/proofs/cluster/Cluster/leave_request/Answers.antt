@@ -8,6 +8,7 @@ use Rattle.mem_fabric.specs.Sound.{State, KeepsState, network_of}
 use Rattle.mem_fabric.proofs.Sounds.{Steps, steps_left}
 use Rattle.mem_fabric.proofs.cluster.Cluster.leave_request.Goals as goal
 use Rattle.world_model.specs.declared.step.Event.{Event}
+use Rattle.world_model.specs.declared.step.Did.{Did}
 
 pub invariant_of-self : goal.invariant_of-self
 invariant_of-self c =
@@ -24,7 +25,7 @@ invariant_of-self c =
     } in
     let past : Past = views.Quiet c.of.result in
     let new : State = record old { requests = c.take_out.new.items.items; past = past } in
-    let told_is : calls_of past ≡ record { steps = []; given = Some Event.Quiet } ∷ calls_of c.self.inside.past = cc in
+    let told_is : calls_of past ≡ record { did = Did.Delivered Event.Quiet; steps = [] } ∷ calls_of c.self.inside.past = cc in
     let within : c.args.place < length old.requests = subst (λ (s : State). c.args.place < length s.requests) (sym c.self.view_is) c.requires in
     let move : State → Moved = λ s. quiet (taken (network_of s).requests c.args.place c.args.stays) (network_of s).replies in
     let steps : Steps old new (move old) =
@@ -46,7 +47,7 @@ returns-clause-network c =
     } in
     let past : Past = views.Quiet c.of.result in
     let new : State = record old { requests = c.take_out.new.items.items; past = past } in
-    let told_is : calls_of past ≡ record { steps = []; given = Some Event.Quiet } ∷ calls_of c.self.inside.past = cc in
+    let told_is : calls_of past ≡ record { did = Did.Delivered Event.Quiet; steps = [] } ∷ calls_of c.self.inside.past = cc in
     let within : c.args.place < length old.requests = subst (λ (s : State). c.args.place < length s.requests) (sym c.self.view_is) c.requires in
     let move : State → Moved = λ s. quiet (taken (network_of s).requests c.args.place c.args.stays) (network_of s).replies in
     let steps : Steps old new (move old) =
@@ -68,7 +69,7 @@ returns-clause-run c =
     } in
     let past : Past = views.Quiet c.of.result in
     let new : State = record old { requests = c.take_out.new.items.items; past = past } in
-    let told_is : calls_of past ≡ record { steps = []; given = Some Event.Quiet } ∷ calls_of c.self.inside.past = cc in
+    let told_is : calls_of past ≡ record { did = Did.Delivered Event.Quiet; steps = [] } ∷ calls_of c.self.inside.past = cc in
     let within : c.args.place < length old.requests = subst (λ (s : State). c.args.place < length s.requests) (sym c.self.view_is) c.requires in
     let move : State → Moved = λ s. quiet (taken (network_of s).requests c.args.place c.args.stays) (network_of s).replies in
     let steps : Steps old new (move old) =

@@ -8,6 +8,7 @@ use Rattle.mem_fabric.proofs.Stops.{Went, steps_resumed}
 use Rattle.mem_fabric.proofs.cluster.Cluster.resume.Goals as goal
 use Rattle.world_model.specs.declared.step.Event.{Event}
 use Rattle.world_model.specs.declared.step.Step.{Step}
+use Rattle.world_model.specs.declared.step.Did.{Did}
 
 pub invariant_of-self : goal.invariant_of-self
 invariant_of-self c =
@@ -25,7 +26,7 @@ invariant_of-self c =
     let node : ℕ = c.args.node in
     let past : Past = views.Restarted c.of.result c.of-2.result in
     let new : State = record old { stopped = c.take_node.new.nodes.items; past = past } in
-    let told_is : calls_of past ≡ record { steps = Step.Restart node [] ∷ []; given = Some Event.Quiet } ∷ calls_of c.self.inside.past = cc in
+    let told_is : calls_of past ≡ record { did = Did.Delivered Event.Quiet; steps = Step.Restart node [] ∷ [] } ∷ calls_of c.self.inside.past = cc in
     let stopped : is_stopped (network_of old) node ≡ true = subst (λ (s : State). is_stopped (network_of s) node ≡ true) (sym c.self.view_is) c.requires in
     let by : Went old new = subst (λ (l : List ℕ). Went old (record old { stopped = l; past = past })) (sym c.take_node.ensures) (steps_resumed old node past c.self.invariant stopped told_is) in
     by.sound
@@ -46,7 +47,7 @@ returns-clause-run c =
     let node : ℕ = c.args.node in
     let past : Past = views.Restarted c.of.result c.of-2.result in
     let new : State = record old { stopped = c.take_node.new.nodes.items; past = past } in
-    let told_is : calls_of past ≡ record { steps = Step.Restart node [] ∷ []; given = Some Event.Quiet } ∷ calls_of c.self.inside.past = cc in
+    let told_is : calls_of past ≡ record { did = Did.Delivered Event.Quiet; steps = Step.Restart node [] ∷ [] } ∷ calls_of c.self.inside.past = cc in
     let stopped : is_stopped (network_of old) node ≡ true = subst (λ (s : State). is_stopped (network_of s) node ≡ true) (sym c.self.view_is) c.requires in
     let by : Went old new = subst (λ (l : List ℕ). Went old (record old { stopped = l; past = past })) (sym c.take_node.ensures) (steps_resumed old node past c.self.invariant stopped told_is) in
     subst (λ (s : State). KeepsState s new) c.self.view_is by.run

@@ -8,6 +8,7 @@ use Rattle.mem_fabric.specs.Sound.{State, KeepsState, network_of}
 use Rattle.mem_fabric.proofs.Sounds.{Sends, steps_sent, sent_as}
 use Rattle.mem_fabric.proofs.cluster.Cluster.send.Goals as goal
 use Rattle.world_model.specs.declared.step.Step.{Step}
+use Rattle.world_model.specs.declared.step.Did.{Did}
 
 pub invariant_of-self-2 : goal.invariant_of-self-2
 invariant_of-self-2 c =
@@ -26,7 +27,7 @@ invariant_of-self-2 c =
     let frame : List ℕ = c.in_ok-frame.frame in
     let past : Past = views.Sent c.of.result c.of-2.result c.of-3.result in
     let new : State = record old { requests = c.push.new.items.items; sent = c.in-Some.sent; past = past } in
-    let told_is : calls_of past ≡ record { steps = Step.Send 0 c.args.node c.args.frame.now ∷ []; given = None } ∷ calls_of c.self.inside.past =
+    let told_is : calls_of past ≡ record { did = Did.Requested c.args.node c.args.frame.now; steps = Step.Send 0 c.args.node c.args.frame.now ∷ [] } ∷ calls_of c.self.inside.past =
     sent_as c.of-2.ensures (c.of-3.ensures ∙ c.in_ok-frame.ensures) (ap (λ (p : Past). calls_of p) c.of.ensures) in
     let asked : Asked = record { number = old.sent; node = c.args.node; frame = c.args.frame.now } in
     let pushed : c.push.new.items.items ≡ old.requests ++ asked ∷ [] =
@@ -54,7 +55,7 @@ returns-clause-ok c =
     let frame : List ℕ = c.in_ok-frame.frame in
     let past : Past = views.Sent c.of.result c.of-2.result c.of-3.result in
     let new : State = record old { requests = c.push.new.items.items; sent = c.in-Some.sent; past = past } in
-    let told_is : calls_of past ≡ record { steps = Step.Send 0 c.args.node c.args.frame.now ∷ []; given = None } ∷ calls_of c.self.inside.past =
+    let told_is : calls_of past ≡ record { did = Did.Requested c.args.node c.args.frame.now; steps = Step.Send 0 c.args.node c.args.frame.now ∷ [] } ∷ calls_of c.self.inside.past =
     sent_as c.of-2.ensures (c.of-3.ensures ∙ c.in_ok-frame.ensures) (ap (λ (p : Past). calls_of p) c.of.ensures) in
     let asked : Asked = record { number = old.sent; node = c.args.node; frame = c.args.frame.now } in
     let pushed : c.push.new.items.items ≡ old.requests ++ asked ∷ [] =
@@ -82,7 +83,7 @@ returns-clause-run c =
     let frame : List ℕ = c.in_ok-frame.frame in
     let past : Past = views.Sent c.of.result c.of-2.result c.of-3.result in
     let new : State = record old { requests = c.push.new.items.items; sent = c.in-Some.sent; past = past } in
-    let told_is : calls_of past ≡ record { steps = Step.Send 0 c.args.node c.args.frame.now ∷ []; given = None } ∷ calls_of c.self.inside.past =
+    let told_is : calls_of past ≡ record { did = Did.Requested c.args.node c.args.frame.now; steps = Step.Send 0 c.args.node c.args.frame.now ∷ [] } ∷ calls_of c.self.inside.past =
     sent_as c.of-2.ensures (c.of-3.ensures ∙ c.in_ok-frame.ensures) (ap (λ (p : Past). calls_of p) c.of.ensures) in
     let asked : Asked = record { number = old.sent; node = c.args.node; frame = c.args.frame.now } in
     let pushed : c.push.new.items.items ≡ old.requests ++ asked ∷ [] =

@@ -12,6 +12,9 @@ use Rattle.mem_fabric.proofs.cluster.Cluster.stop.Goals as goal
 use Rattle.std.specs.Prelude.{filter}
 use Rattle.world_model.specs.declared.step.Event.{Event}
 use Rattle.world_model.specs.declared.step.Step.{Step}
+use Rattle.world_model.specs.declared.step.Did.{Did}
+use Rattle.world_model.specs.declared.order.Order.{Order}
+use Rattle.world_model.specs.declared.order.Told.{Told}
 
 pub invariant_of-self-2 : goal.invariant_of-self-2
 invariant_of-self-2 c =
@@ -31,7 +34,7 @@ invariant_of-self-2 c =
     let replies : List Replied = filter (replied_elsewhere node) old.replies in
     let queue : List Event = old.queue ++ Event.Broken node ∷ [] in
     let new : State = record old { stopped = c.silence.new.stopped.items; requests = c.silence.new.requests.items; replies = c.silence.new.replies.items; queue = c.add.new.items.items; past = past } in
-    let told_is : calls_of past ≡ record { steps = Step.Stop node ∷ []; given = None } ∷ calls_of c.self.inside.past = ordered_as c.of-2.ensures c.of-3.ensures (ap (λ (p : Past). calls_of p) c.of.ensures) in
+    let told_is : calls_of past ≡ record { did = Did.Administered (Order.Stop node) Told.Done; steps = Step.Stop node ∷ [] } ∷ calls_of c.self.inside.past = ordered_as c.of-2.ensures c.of-3.ensures (ap (λ (p : Past). calls_of p) c.of.ensures) in
     let more : c.silence.new.stopped.items ≡ old.stopped ++ node ∷ [] = c.silence.ensures.stopped ∙ ap (λ (l : List ℕ). l ++ node ∷ []) c.reserve-2.ensures.items in
     let waits : c.add.new.items.items ≡ queue = c.add.ensures ∙ ap (λ (l : List Event). l ++ Event.Broken node ∷ []) c.reserve.ensures.items in
     let few : length queue < 2 ^ 32 = omega (arith, length-append old.queue (Event.Broken node ∷ [])) in
@@ -61,7 +64,7 @@ returns-clause-ok c =
     let replies : List Replied = filter (replied_elsewhere node) old.replies in
     let queue : List Event = old.queue ++ Event.Broken node ∷ [] in
     let new : State = record old { stopped = c.silence.new.stopped.items; requests = c.silence.new.requests.items; replies = c.silence.new.replies.items; queue = c.add.new.items.items; past = past } in
-    let told_is : calls_of past ≡ record { steps = Step.Stop node ∷ []; given = None } ∷ calls_of c.self.inside.past = ordered_as c.of-2.ensures c.of-3.ensures (ap (λ (p : Past). calls_of p) c.of.ensures) in
+    let told_is : calls_of past ≡ record { did = Did.Administered (Order.Stop node) Told.Done; steps = Step.Stop node ∷ [] } ∷ calls_of c.self.inside.past = ordered_as c.of-2.ensures c.of-3.ensures (ap (λ (p : Past). calls_of p) c.of.ensures) in
     let more : c.silence.new.stopped.items ≡ old.stopped ++ node ∷ [] = c.silence.ensures.stopped ∙ ap (λ (l : List ℕ). l ++ node ∷ []) c.reserve-2.ensures.items in
     let waits : c.add.new.items.items ≡ queue = c.add.ensures ∙ ap (λ (l : List Event). l ++ Event.Broken node ∷ []) c.reserve.ensures.items in
     let few : length queue < 2 ^ 32 = omega (arith, length-append old.queue (Event.Broken node ∷ [])) in

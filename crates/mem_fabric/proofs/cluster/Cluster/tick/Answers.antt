@@ -7,6 +7,7 @@ use Rattle.mem_fabric.proofs.Sounds.{steps_now}
 use Rattle.mem_fabric.proofs.cluster.Cluster.tick.Goals as goal
 use Rattle.world_model.specs.declared.step.Event.{Event}
 use Rattle.world_model.specs.declared.step.Step.{Step}
+use Rattle.world_model.specs.declared.step.Did.{Did}
 
 pub invariant_of-self : goal.invariant_of-self
 invariant_of-self c =
@@ -25,7 +26,7 @@ invariant_of-self c =
     } in
     let new : State = record old { clock = moment; past = past } in
     let calm : old.queue ≡ [] = subst (λ (s : State). s.queue ≡ []) (sym c.self.view_is) c.requires.calm in
-    let told_is : calls_of past ≡ record { steps = Step.Now moment ∷ []; given = Some (Event.Now moment) } ∷ calls_of c.self.inside.past = cc in
+    let told_is : calls_of past ≡ record { did = Did.Delivered (Event.Now moment); steps = Step.Now moment ∷ [] } ∷ calls_of c.self.inside.past = cc in
     (steps_now old c.args.ms moment past c.self.invariant calm (omega arith) c.saturating_add-self-inside.ensures told_is).sound
 
 pub returns-clause-run : goal.returns-clause-run
@@ -45,5 +46,5 @@ returns-clause-run c =
     } in
     let new : State = record old { clock = moment; past = past } in
     let calm : old.queue ≡ [] = subst (λ (s : State). s.queue ≡ []) (sym c.self.view_is) c.requires.calm in
-    let told_is : calls_of past ≡ record { steps = Step.Now moment ∷ []; given = Some (Event.Now moment) } ∷ calls_of c.self.inside.past = cc in
+    let told_is : calls_of past ≡ record { did = Did.Delivered (Event.Now moment); steps = Step.Now moment ∷ [] } ∷ calls_of c.self.inside.past = cc in
     subst (λ (s : State). KeepsState s new) c.self.view_is (steps_now old c.args.ms moment past c.self.invariant calm (omega arith) c.saturating_add-self-inside.ensures told_is).run
