@@ -67,7 +67,7 @@ pub use disk::Disk;
 pub use file_bays::FileBays;
 pub use file_disk::FileDisk;
 pub use file_fault::FileFault;
-pub use fuse_bays::FuseBays;
+pub use fuse_bays::{FuseBays, PlacedFuse};
 pub use fuse_disk::{Fuse, FuseDisk};
 pub use host_file::Lockable;
 pub use mem_bays::MemBays;
