@@ -1,0 +1,18 @@
+//! The lines of scripts and the outcomes of transcripts.
+#![tactic(auto)]
+
+mod command;
+mod fault;
+mod names;
+mod reading;
+mod slots;
+mod tags;
+mod texts;
+
+pub use command::{BlobSource, Command, IdWord};
+pub use fault::{LineFault, Wanted};
+pub use reading::read_line;
+pub use tags::{Scope, Tag, Tags};
+
+#[cfg(test)]
+mod tests;
