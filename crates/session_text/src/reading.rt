@@ -6,7 +6,7 @@ ghost use Rattle.session_text.specs.declared.command.Command.{Command as Asks};
 ghost use Rattle.session_text.specs.declared.fault.LineFault.TheVariants as fault;
 ghost use Rattle.session_text.specs.Spelling.{Spells};
 ghost use Rattle.session_text.specs.Texts.{is_nothing};
-ghost use Rattle.session_text.specs.Reading.{Gives, source_in, type_option, metadata_option, file_option, range_in, behind_option, behind_range, put_in, get_in, info_in, delete_in, cancel_in, wait_in, drain_in, pull_in, compact_in, level_in, stop_in, restart_in, operation_in, order_in, command_behind, command_in, line_in};
+ghost use Rattle.session_text.specs.Reading.{Gives, source_in, type_option, metadata_option, file_option, range_in, behind_option, behind_range, put_in, get_in, info_in, delete_in, cancel_in, wait_in, drain_in, pull_in, compact_in, level_in, stop_in, restart_in, command_behind, command_in, line_in};
 
 use crate::command::{BlobSource, Command};
 use crate::fault::{LineFault, Wanted};
