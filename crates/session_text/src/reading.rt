@@ -1,6 +1,6 @@
 //! Reading a line of a script.
 
-ghost use Rattle.std.specs.Prelude.{◌≡◌, IfOk, MatchResult, map};
+ghost use Rattle.std.specs.Prelude.{◌≡◌, ◌<◌, ◌^◌, IfOk, MatchResult, map};
 ghost use Rattle.world_model.specs.Shape.{IsShape};
 ghost use Rattle.session_text.specs.declared.command.Command.{Command as Asks};
 ghost use Rattle.session_text.specs.declared.fault.LineFault.TheVariants as fault;
