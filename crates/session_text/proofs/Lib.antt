@@ -1,3 +1,5 @@
 pub mod TagLemmas
 pub mod DigitLemmas
 pub mod ChoiceLemmas
+pub mod PlaceLemmas
+pub mod WordLemmas
