@@ -3,3 +3,4 @@ pub mod DigitLemmas
 pub mod ChoiceLemmas
 pub mod PlaceLemmas
 pub mod WordLemmas
+pub mod PartLemmas
