@@ -4,3 +4,4 @@ pub mod ChoiceLemmas
 pub mod PlaceLemmas
 pub mod WordLemmas
 pub mod PartLemmas
+pub mod LineLemmas

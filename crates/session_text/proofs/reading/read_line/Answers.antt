@@ -1,5 +1,5 @@
 use Rattle.session_text.proofs.PlaceLemmas.{done_is}
-use Rattle.session_text.proofs.PartLemmas.{range_again}
+use Rattle.session_text.proofs.LineLemmas.{line_takes}
 use Rattle.session_text.proofs.reading.read_line.Goals as goal
 
 pub returns-clause-spelled : goal.returns-clause-spelled
