@@ -5,3 +5,4 @@ pub mod PlaceLemmas
 pub mod WordLemmas
 pub mod PartLemmas
 pub mod LineLemmas
+pub mod PieceLemmas

@@ -5,3 +5,5 @@ pub mod Places
 pub mod Commands
 pub mod Spelling
 pub mod Reading
+pub mod Outcomes
+pub mod Pieces

@@ -8,11 +8,13 @@ mod reading;
 mod slots;
 mod tags;
 mod texts;
+mod writing;
 
 pub use command::{BlobSource, Command, IdWord};
 pub use fault::{LineFault, Wanted};
 pub use reading::read_line;
 pub use tags::{Scope, Tag, Tags};
+pub use writing::write_outcome;
 
 #[cfg(test)]
 mod tests;
