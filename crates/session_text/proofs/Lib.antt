@@ -6,3 +6,5 @@ pub mod WordLemmas
 pub mod PartLemmas
 pub mod LineLemmas
 pub mod PieceLemmas
+pub mod JoinLemmas
+pub mod OutcomeLemmas

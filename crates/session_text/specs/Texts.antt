@@ -1,5 +1,5 @@
 -- The words of a line, and what a word may be.
-use Rattle.std.specs.Prelude.{ℕ, List, [], ◌∷◌, length, Bool, true, false, not, ◌&&◌, ◌||◌, ◌==◌, nat_le, Option, None, Some, option_and_then, is_none, if◌then◌else◌, Result, Ok, Err, filter, codes}
+use Rattle.std.specs.Prelude.{ℕ, List, [], ◌∷◌, ◌++◌, length, Bool, true, false, not, ◌&&◌, ◌||◌, ◌==◌, nat_le, Option, None, Some, option_and_then, is_none, if◌then◌else◌, Result, Ok, Err, filter, codes}
 use Rattle.std.specs.List.{slice_split, list_all}
 use Rattle.std.specs.Str.{bytes_eq}
 use Rattle.hex.specs.Hex.{decode_of, encode_lower}
@@ -60,3 +60,9 @@ id_in_lower text bytes = if is_none (id_fault bytes) && bytes_eq (encode_lower b
 -- the id that 40 digits spell
 abbrev pub id_of_digits : List ℕ → Option (List ℕ)
 id_of_digits text = option_and_then (id_in_lower text) (ok_value (decode_of text))
+
+-- words with one space between two of them
+abbrev pub joined : List (List ℕ) → List ℕ
+joined [] = []
+joined (word ∷ []) = word
+joined (word ∷ next ∷ more) = word ++ 32 ∷ joined (next ∷ more)
