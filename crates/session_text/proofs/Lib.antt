@@ -8,3 +8,4 @@ pub mod LineLemmas
 pub mod PieceLemmas
 pub mod JoinLemmas
 pub mod OutcomeLemmas
+pub mod CommandLemmas

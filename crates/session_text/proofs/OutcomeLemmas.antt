@@ -55,7 +55,7 @@ properties_joined created ctype meta =
     ∙ append_assoc (codes " " ++ created ++ codes " ") ctype (codes " " ++ meta)
     ∙ append_assoc (codes " " ++ created) (codes " ") (ctype ++ (codes " " ++ meta))
 
-pub words_are_parts : (outcome : Outcome) → outcome_words outcome ≡ joined (parts outcome)
+words_are_parts : (outcome : Outcome) → outcome_words outcome ≡ joined (parts outcome)
 unfolding outcome_words
 words_are_parts (Outcome.Put id) = refl
 words_are_parts Outcome.Deleted2 = refl
@@ -77,17 +77,17 @@ words_are_parts Outcome.Memory = refl
 
 -- ---- each word is plain
 
-id_plain : (id : List ℕ) → IsId id → IsPlain (encode_lower id)
+pub id_plain : (id : List ℕ) → IsId id → IsPlain (encode_lower id)
 id_plain id is = hex_plain id (omega (arith, is.size)) is.each
 
-spelled_plain : (bytes : List ℕ) → IsBytes bytes → IsPlain (spelled_bytes bytes)
+pub spelled_plain : (bytes : List ℕ) → IsBytes bytes → IsPlain (spelled_bytes bytes)
 spelled_plain [] each = (omega arith, refl)
 spelled_plain (b ∷ bytes) each = hex_plain (b ∷ bytes) (omega arith) each
 
-type_mark : (b : ℕ) → is_type_byte b ≡ true → is_mark b ≡ true
+pub type_mark : (b : ℕ) → is_type_byte b ≡ true → is_mark b ≡ true
 type_mark b e = grind (arith, nat_tests)
 
-pub type_plain : (ctype : List ℕ) → list_all is_type_byte ctype ≡ true → IsPlain (type_words ctype)
+type_plain : (ctype : List ℕ) → list_all is_type_byte ctype ≡ true → IsPlain (type_words ctype)
 type_plain [] e = (omega arith, refl)
 type_plain (b ∷ ctype) e = (omega arith, every_byte is_type_byte is_mark type_mark (b ∷ ctype) e)
 
@@ -122,7 +122,7 @@ failures_plain (failure ∷ failed) each = (failure_plain failure each.0, failur
 fixed : (word : List ℕ) → 0 < length word → list_all is_mark word ≡ true → AllByRecursion IsPlain (word ∷ [])
 fixed word some marks = ((some, marks), tt)
 
-pub parts_plain : (outcome : Outcome) → IsOutcome outcome → AllByRecursion IsPlain (parts outcome)
+parts_plain : (outcome : Outcome) → IsOutcome outcome → AllByRecursion IsPlain (parts outcome)
 unfolding IsOutcome
 parts_plain (Outcome.Put id) is = ((omega arith, refl), (id_plain id is, tt))
 parts_plain Outcome.Deleted2 is = fixed (codes "ok") (omega arith) refl

@@ -7,3 +7,4 @@ pub mod Spelling
 pub mod Reading
 pub mod Outcomes
 pub mod Pieces
+pub mod Lines

@@ -13,7 +13,7 @@ mod writing;
 
 pub use command::{BlobSource, Command, IdWord};
 pub use fault::{LineFault, Wanted};
-pub use laws::outcome_laws;
+pub use laws::{line_laws, outcome_laws};
 pub use reading::read_line;
 pub use tags::{Scope, Tag, Tags};
 pub use writing::write_outcome;
