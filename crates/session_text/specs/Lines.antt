@@ -1,6 +1,7 @@
 -- A line for each command.
 use Rattle.std.specs.Prelude.{◌≡◌, ℕ, ◌^◌, ◌<◌, ◌≤◌, List, [], ◌∷◌, ◌++◌, length, true, Option, None, Some, codes}
 use Rattle.std.specs.Fmt.{decimal}
+use Rattle.std.specs.List.{AllByRecursion}
 use Rattle.hex.specs.Hex.{IsBytes, encode_lower}
 use Rattle.blob_id.specs.Id.{IsId}
 use Rattle.run_words.specs.Pathnames.{is_pathname}
@@ -73,6 +74,10 @@ command_line command = joined (command_words command)
 
 -- ---- which commands a script may have
 
+-- the names of the tags are tags
+abbrev pub AreTags : List Tag → Type 0
+AreTags tags = AllByRecursion (λ tag. is_tag tag.name ≡ true) tags
+
 abbrev pub IsSource : BlobSource → Type 0
 IsSource (source.Line bytes) = IsBytes bytes
 IsSource (source.File name) = is_pathname name ≡ true
@@ -85,11 +90,7 @@ IsTypeOrNone (byte ∷ bytes) = is_type (byte ∷ bytes) ≡ true
 -- an id, or the tag of a put line before
 abbrev pub IsNamed : List Tag → IdWord → Type 0
 IsNamed tags (id.Id bytes) = IsId bytes
-IsNamed tags (id.Tag tag) = (is_tag tag ≡ true) × (is_put_tag tags tag ≡ true)
-
--- the tag of an operation line before
-abbrev pub IsUsedTag : List Tag → List ℕ → Type 0
-IsUsedTag tags tag = (is_tag tag ≡ true) × (is_used_tag tags tag ≡ true)
+IsNamed tags (id.Tag tag) = is_put_tag tags tag ≡ true
 
 -- two numbers of 64 bits, or none
 abbrev pub IsRange : Option (ℕ × ℕ) → Type 0
@@ -118,9 +119,9 @@ IsCommand scope (command.Put tag source ctype meta) = IsNewTag scope.tags tag ×
 IsCommand scope (command.Get tag id range file) = IsNewTag scope.tags tag × IsNamed scope.tags id × IsRange range × IsFileOrNone file
 IsCommand scope (command.Info tag id) = IsNewTag scope.tags tag × IsNamed scope.tags id
 IsCommand scope (command.Delete tag id) = IsNewTag scope.tags tag × IsNamed scope.tags id
-IsCommand scope (command.Cancel tag) = IsUsedTag scope.tags tag
+IsCommand scope (command.Cancel tag) = is_used_tag scope.tags tag ≡ true
 IsCommand scope (command.Wait None) = Unit {0}
-IsCommand scope (command.Wait (Some tag)) = IsUsedTag scope.tags tag
+IsCommand scope (command.Wait (Some tag)) = is_used_tag scope.tags tag ≡ true
 IsCommand scope (command.Drain node on) = IsNode scope.shape node
 IsCommand scope (command.Admin order) = IsOrder scope.shape order
 IsCommand scope command.End = Unit {0}
