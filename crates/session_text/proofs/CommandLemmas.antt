@@ -31,7 +31,7 @@ use Rattle.session_text.specs.Spelling.{longest_line, IsHex, SpellsId, SpellsSou
 use Rattle.session_text.specs.Lines.{AreTags, source_part, type_part, metadata_part, range_part, file_part, id_text, order_part, command_words, command_line, IsSource, IsTypeOrNone, IsNamed, IsRange, IsFileOrNone, IsNode, IsOrder, IsCommand}
 use Rattle.session_text.proofs.ChoiceLemmas.{both, same_text}
 use Rattle.session_text.proofs.JoinLemmas.{is_mark, IsPlain, every_byte, words_joined, decimal_all, decimal_plain, hex_plain}
-use Rattle.session_text.proofs.OutcomeLemmas.{id_plain, spelled_plain, type_mark}
+use Rattle.session_text.proofs.OutcomePartLemmas.{id_plain, spelled_plain, type_mark}
 
 -- ---- the words spell the command
 
@@ -210,9 +210,13 @@ order_plain shape (order.Level partition a b) fits is =
 
 words_plain : (scope : Scope) (c : Command) → IsShape scope.shape → AreTags scope.tags → IsCommand scope c → AllByRecursion IsPlain (command_words c)
 words_plain scope command.Skip fits all is = tt
-words_plain scope (command.Put tag s ctype meta) fits all (new, s_is, t_is, each, few) =
-    (fixed (codes "put") (omega arith) refl, (tag_plain tag new.0,
-    all_of_both (source_part s) (type_part ctype ++ metadata_part meta) (source_plain s s_is) (all_of_both (type_part ctype) (metadata_part meta) (type_part_plain ctype t_is) (metadata_plain meta each))))
+words_plain scope (command.Put tag s ctype meta) fits all (new, s_is, t_is, each, few) = (
+  fixed (codes "put") (omega arith) refl,
+  (
+    tag_plain tag new.0,
+    all_of_both (source_part s) (type_part ctype ++ metadata_part meta) (source_plain s s_is) (all_of_both (type_part ctype) (metadata_part meta) (type_part_plain ctype t_is) (metadata_plain meta each)),
+  ),
+)
 words_plain scope (command.Get tag i range file) fits all (new, i_is, r_is, f_is) =
     (fixed (codes "get") (omega arith) refl, (tag_plain tag new.0, (named_plain scope.tags i all i_is, all_of_both (range_part range) (file_part file) (range_plain range r_is) (file_plain file f_is))))
 words_plain scope (command.Info tag i) fits all is = (fixed (codes "info") (omega arith) refl, (tag_plain tag is.0.0, (named_plain scope.tags i all is.1, tt)))

@@ -25,16 +25,20 @@ unfolding source_in
 source_takes words place s e = elim (chosen (has_word words place (codes "hex")) lined other (Ok s) e) [
   | inl p ↦
       let b = slot_first bytes_of_digits wanted.Digits words (place + 1) (λ bytes. Ok (source.Line bytes)) s p.1 in
-      let is : source.Line b.0 ≡ s = done_is (source.Line b.0) s b.4 in
-      (codes "hex" ∷ b.1 ∷ [], two_behind words place (codes "hex") b.1 (has_word_takes words place (codes "hex") p.0) b.2,
-      subst (λ (x : BlobSource). SpellsSource x (codes "hex" ∷ b.1 ∷ [])) is (b.1, refl, hex_takes b.1 b.0 b.3))
+      let is : source.Line b.0 ≡ s = done_is (source.Line b.0) s b.4 in (
+        codes "hex" ∷ b.1 ∷ [],
+        two_behind words place (codes "hex") b.1 (has_word_takes words place (codes "hex") p.0) b.2,
+        subst (λ (x : BlobSource). SpellsSource x (codes "hex" ∷ b.1 ∷ [])) is (b.1, refl, hex_takes b.1 b.0 b.3),
+      )
   | inr p ↦ elim (chosen (has_word words place (codes "file")) named none (Ok s) p.1) [
     | inl q ↦
         let b = slot_first file_name_of wanted.FileName words (place + 1) (λ file. Ok (source.File file)) s q.1 in
         let is : source.File b.0 ≡ s = done_is (source.File b.0) s b.4 in
-        let f = file_name_takes b.1 b.0 b.3 in
-        (codes "file" ∷ b.1 ∷ [], two_behind words place (codes "file") b.1 (has_word_takes words place (codes "file") q.0) b.2,
-        subst (λ (x : BlobSource). SpellsSource x (codes "file" ∷ b.1 ∷ [])) is (ap (λ (w : List ℕ). codes "file" ∷ w ∷ []) f.0, f.1))
+        let f = file_name_takes b.1 b.0 b.3 in (
+          codes "file" ∷ b.1 ∷ [],
+          two_behind words place (codes "file") b.1 (has_word_takes words place (codes "file") q.0) b.2,
+          subst (λ (x : BlobSource). SpellsSource x (codes "file" ∷ b.1 ∷ [])) is (ap (λ (w : List ℕ). codes "file" ∷ w ∷ []) f.0, f.1),
+        )
     | inr q ↦ absurd cc
   ]
 ]

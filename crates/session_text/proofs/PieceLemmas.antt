@@ -8,4 +8,3 @@ begins_with_itself (x ∷ a) = ap (λ (l : List ℕ). x ∷ l) (begins_with_itse
 pub begins_with_front : (a b : List ℕ) → take (length a) (a ++ b) ≡ a
 begins_with_front [] b = refl
 begins_with_front (x ∷ a) b = ap (λ (l : List ℕ). x ∷ l) (begins_with_front a b)
-

@@ -29,14 +29,27 @@ pub enum Command {
         file: Option<Pathname>,
     },
     /// Reads the size and the properties of a blob.
-    Info { tag: Bytes, id: IdWord },
-    Delete { tag: Bytes, id: IdWord },
+    Info {
+        tag: Bytes,
+        id: IdWord,
+    },
+    Delete {
+        tag: Bytes,
+        id: IdWord,
+    },
     /// Cancels an operation.
-    Cancel { tag: Bytes },
+    Cancel {
+        tag: Bytes,
+    },
     /// Waits for one operation, or for all that are live.
-    Wait { tag: Option<Bytes> },
+    Wait {
+        tag: Option<Bytes>,
+    },
     /// From here on a node is sent no requests, or is again.
-    Drain { node: u32, on: bool },
+    Drain {
+        node: u32,
+        on: bool,
+    },
     /// An order to the network. Where it names two nodes they differ; each node named beside a partition holds it.
     Admin(Order),
     /// Ends the script.
@@ -74,7 +87,10 @@ impl Command {
                 ..
             } => is_built_put(source, ctype, meta),
             Command::Get {
-                id, range, file, ..
+                id,
+                range,
+                file,
+                ..
             } => { is_built_id(id) && range.is_none() && file.is_none() }
             Command::Delete { id, .. } => is_built_id(id),
             Command::Wait { tag } => tag.is_none(),

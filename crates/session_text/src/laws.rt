@@ -16,12 +16,10 @@ pub fn line_laws()
     ensures one { (scope : Before) (line : List ℕ) (a b : Asks) → Spells scope a line → Spells scope b line → a ≡ b }
     ensures valid { (scope : Before) (line : List ℕ) (command : Asks) → Spells scope command line → IsCommand scope command }
     ensures each { (scope : Before) (command : Asks) → IsShape scope.shape → AreTags scope.tags → IsCommand scope command → length (command_line command) ≤ longest_line → Spells scope command (command_line command) }
-{
-}
+{}
 
 /// No two outcomes have the same words, and no byte of them ends a line.
 pub fn outcome_laws()
     ensures apart { (a b : Outcome) → IsOutcome a → IsOutcome b → outcome_words a ≡ outcome_words b → a ≡ b }
     ensures within { (outcome : Outcome) → IsOutcome outcome → AllByRecursion (λ byte. byte ≢ 10) (outcome_words outcome) }
-{
-}
+{}

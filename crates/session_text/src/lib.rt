@@ -5,6 +5,8 @@ mod command;
 mod fault;
 mod laws;
 mod names;
+mod operations;
+mod orders;
 mod reading;
 mod slots;
 mod tags;

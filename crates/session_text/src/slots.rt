@@ -1,16 +1,15 @@
 //! What stands at one place of a line. Each of these answers what the word there is, or that the word isn't what has to stand
 //! there.
 
-ghost use Rattle.std.specs.Prelude.{◌≡◌, IfOk, map, not, length, slice_get};
+ghost use Rattle.std.specs.Prelude.{◌≡◌, IfOk, map};
 ghost use Rattle.std.specs.Option.{option_copied};
 ghost use Rattle.run_words.specs.Reading.{number_at};
 ghost use Rattle.world_model.specs.Shape.{IsShape};
 ghost use Rattle.session_text.specs.declared.fault.Wanted.TheVariants as wanted;
-ghost use Rattle.session_text.specs.Tags.{};
 ghost use Rattle.session_text.specs.Texts.{id_of_digits};
 ghost use Rattle.session_text.specs.Names.{name_at};
 ghost use Rattle.session_text.specs.Places.{node_of, partition_of, holds, are_peers};
-ghost use Rattle.session_text.specs.Reading.{Gives, slot, has_word, behind_option, new_tag_of, used_tag_of, behind_dollar, id_word_of, id_word_by, bytes_of_digits, metadata_of, file_name_of, type_of, ended};
+ghost use Rattle.session_text.specs.Reading.{Gives, slot, has_word, new_tag_of, used_tag_of, behind_dollar, id_word_of, id_word_by, bytes_of_digits, metadata_of, file_name_of, type_of, ended};
 
 use crate::command::{Command, IdWord};
 use crate::fault::{LineFault, Wanted};
@@ -165,12 +164,7 @@ pub fn used_tag_in(
     }
 }
 
-pub fn id_in(
-    alloc: Global,
-    tags: &Tags,
-    words: &[&[u8]],
-    place: usize,
-) -> Result<IdWord, LineFault>
+pub fn id_in(alloc: Global, tags: &Tags, words: &[&[u8]], place: usize) -> Result<IdWord, LineFault>
     ensures { Gives result (slot (id_word_of tags.now) wanted.Id (map (λ word. word.now) words.now) place) }
 {
     let Some(word) = word_at(words, place) else {

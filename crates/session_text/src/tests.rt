@@ -4,8 +4,9 @@ ghost use Rattle.std.specs.Prelude.{IfOk};
 ghost use Rattle.world_model.specs.Shape.{IsShape};
 
 use super::*;
-use blob_id::Bytes;
+use blob_id::{BlobId, Bytes, Kind};
 use itoa::Buffer;
+use quorum_op::{Cause, Failures, Outcome};
 use std::alloc::Global;
 use std::test::Fail;
 use world_model::{LogNumbers, Order, Shape};
@@ -182,10 +183,19 @@ fn lines_and_what_they_ask_for(rt: HostRuntime) -> Result<(), Fail> {
         (b"put c hex -", b" put:c bytes: type: meta:"),
         (b"put c hex - meta -", b" put:c bytes: type: meta:"),
         (b"put c file x/y.z", b"! put:c file:x/y.z type: meta:"),
-        (b"put c hex 41 type text/plain", b"! put:c bytes:A type:text/plain meta:"),
+        (
+            b"put c hex 41 type text/plain",
+            b"! put:c bytes:A type:text/plain meta:",
+        ),
         (b"put c hex 41 meta 4242", b"! put:c bytes:A type: meta:BB"),
-        (b"put c hex 41 type t meta 42", b"! put:c bytes:A type:t meta:B"),
-        (b"put c file f type meta meta 42", b"! put:c file:f type:meta meta:B"),
+        (
+            b"put c hex 41 type t meta 42",
+            b"! put:c bytes:A type:t meta:B",
+        ),
+        (
+            b"put c file f type meta meta 42",
+            b"! put:c file:f type:meta meta:B",
+        ),
         (b"get c $a", b" get:c of:a"),
         (b"get c $a 007 2", b"! get:c of:a from:7 len:2"),
         (b"get c $a file f", b"! get:c of:a file:f"),
@@ -298,6 +308,73 @@ fn a_line_is_too_long_by_one_byte(rt: HostRuntime) -> Result<(), Fail> {
     match read_line(alloc, line.as_slice(), &scope) {
         Err(refusal) => assert_eq!(rt; refusal, LineFault::TooLong),
         Ok(_) => assert!(rt; false),
+    }
+    Ok(())
+}
+
+/// An id of a kind, in partition 3.
+fn id_of(kind: Kind) -> BlobId {
+    BlobId::draw(kind, 3, 0, 1)
+}
+
+#[test]
+fn outcomes_and_their_words(rt: HostRuntime) -> Result<(), Fail> {
+    let alloc = rt.alloc();
+    let mut failed = Failures::new(alloc);
+    failed.push((2, Cause::Timeout))?;
+    failed.push((10, Cause::Cancelled))?;
+    let rows: [(Outcome, &[u8]); 12] = [
+        (
+            Outcome::Put(id_of(Kind::Simple)),
+            b"ok 0100000300000000000040008000000000000001",
+        ),
+        (Outcome::Deleted2, b"ok"),
+        (Outcome::Bytes(Bytes::new(alloc)), b"ok 0 -"),
+        (
+            Outcome::Bytes(Bytes::copy_of(alloc, b"\x0f\xa0")?),
+            b"ok 2 0fa0",
+        ),
+        (
+            Outcome::Info {
+                size: 0,
+                created: 18_446_744_073_709_551_615,
+                ctype: Bytes::new(alloc),
+                meta: Bytes::new(alloc),
+            },
+            b"ok 0 18446744073709551615 - -",
+        ),
+        (
+            Outcome::Info {
+                size: 10,
+                created: 7,
+                ctype: Bytes::copy_of(alloc, b"text/plain")?,
+                meta: Bytes::copy_of(alloc, b"AB")?,
+            },
+            b"ok 10 7 text/plain 4142",
+        ),
+        (
+            Outcome::Unavailable {
+                id: id_of(Kind::Chunk),
+                failed,
+            },
+            b"unavailable 0102000300000000000040008000000000000001 2:timeout 10:cancelled",
+        ),
+        (Outcome::TooLarge(67_108_865), b"toolarge 67108865"),
+        (Outcome::BadRange(0), b"badrange 0"),
+        (
+            Outcome::Missing(id_of(Kind::Chunk)),
+            b"missing 0102000300000000000040008000000000000001",
+        ),
+        (
+            Outcome::Corrupt(id_of(Kind::Composite)),
+            b"corrupt 0101000300000000000040008000000000000001",
+        ),
+        (Outcome::NoPartition, b"nopartition"),
+    ];
+    for (outcome, wanted) in rows {
+        let mut out = Vec::new(alloc);
+        write_outcome(&outcome, &mut out)?;
+        assert_eq!(rt; out.as_slice(), wanted);
     }
     Ok(())
 }

@@ -3,4 +3,4 @@ use Rattle.session_text.proofs.LineLemmas.{one_command}
 use Rattle.session_text.proofs.laws.line_laws.Goals as goal
 
 pub returns : goal.returns
-returns c = record { one = one_command; valid = line_is_valid; each = line_of_each; }
+returns c = record { one = one_command; valid = line_is_valid; each = line_of_each }
