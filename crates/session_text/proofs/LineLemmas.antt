@@ -1,5 +1,5 @@
 -- What a line spells is what it is read as.
-use Rattle.std.proofs.Common.{◌≡◌, ◌≢◌, ◌∙◌, inl, inr, ℕ, ◌≤◌, not, nat_eq, nat_le, nat_lt, Bool, true, false, cond, codes, Option, Some, None, Result, Ok, Err, List, [], ◌∷◌, ◌++◌, length, drop, refl, sym, ap, ap₂, subst, arith, true≢false, IfOk, MatchResult}
+use Rattle.std.proofs.Common.{◌≡◌, ◌∙◌, inl, inr, ℕ, ◌≤◌, not, nat_le, nat_lt, Bool, true, false, cond, codes, Option, Some, None, Result, Ok, Err, List, [], ◌∷◌, ◌++◌, length, drop, refl, sym, ap, subst, arith, IfOk, MatchResult}
 use Rattle.std.proofs.lemmas.Bool.Decides.{nat_tests}
 use Rattle.world_model.specs.declared.order.Order.{Order}
 use Rattle.world_model.specs.declared.order.Order.TheVariants as order
@@ -15,16 +15,14 @@ use Rattle.session_text.specs.declared.command.BlobSource.{BlobSource}
 use Rattle.session_text.specs.declared.command.IdWord.{IdWord}
 use Rattle.session_text.specs.declared.command.Command.{Command}
 use Rattle.session_text.specs.declared.command.Command.TheVariants as command
-use Rattle.session_text.specs.Tags.{is_used_tag}
-use Rattle.session_text.specs.Texts.{words_of, is_comment, is_nothing}
-use Rattle.session_text.specs.Names.{name_text, name_at}
-use Rattle.session_text.specs.Places.{node_of, partition_of, holds, are_peers}
-use Rattle.session_text.specs.Spelling.{longest_line, IsNothing, SpellsMetadata, SpellsFile, drain_word, SpellsOrder, SpellsByWords, Spells}
-use Rattle.session_text.specs.Reading.{◌>>=◌, where_true, Gives, slot, ended, new_tag_of, used_tag_of, id_word_of, source_in, type_option, metadata_option, file_option, range_in, behind_option, behind_range, put_in, get_in, info_in, delete_in, cancel_in, wait_in, drain_in, stop_in, restart_in, pull_in, compact_in, level_in, command_behind, command_in, line_in}
-use Rattle.session_text.proofs.ChoiceLemmas.{chosen}
-use Rattle.session_text.proofs.PlaceLemmas.{done, done_is, bind_ok, bind_is, where_ok, slot_first, slot_again, ended_takes, ended_again, few_words, none_behind}
-use Rattle.session_text.proofs.WordLemmas.{name_takes, name_again, new_tag_takes, new_tag_again, used_tag_takes, used_tag_again, id_word_takes, id_word_again, node_takes, node_again, partition_takes, partition_again, peers_take, peers_again}
-use Rattle.session_text.proofs.PartLemmas.{source_takes, source_again, type_option_takes, type_option_again, metadata_option_takes, metadata_option_again, no_type_before, file_option_takes, file_option_again, range_takes, range_again}
+use Rattle.session_text.specs.Texts.{words_of}
+use Rattle.session_text.specs.Names.{name_text}
+use Rattle.session_text.specs.Holders.{node_of, partition_of, holds, are_peers}
+use Rattle.session_text.specs.Spelling.{longest_line, IsNothing, SpellsMetadata, SpellsFile, SpellsOrder, SpellsByWords, Spells}
+use Rattle.session_text.specs.Reading.{◌>>=◌, where_true, Gives, read_at, ended, new_tag_of, used_tag_of, id_word_of, source_in, type_option, metadata_option, file_option, range_in, behind_option, behind_range, put_in, get_in, info_in, delete_in, cancel_in, wait_in, drain_in, stop_in, restart_in, pull_in, compact_in, level_in, command_behind, command_in, line_in}
+use Rattle.session_text.proofs.PlaceLemmas.{done, done_is, bind_is, read_at_again, ended_again}
+use Rattle.session_text.proofs.WordLemmas.{new_tag_again, used_tag_again, id_word_again, node_again, partition_again, peers_again}
+use Rattle.session_text.proofs.PartLemmas.{source_again, type_option_again, metadata_option_again, no_type_before, file_option_again, range_again}
 use Rattle.session_text.proofs.ReadLemmas.{Words, line_takes}
 
 -- a name in front: what stands behind it is read
@@ -60,14 +58,14 @@ skip_again scope words s = elim s [ inl p ↦ ap (command_in scope) p ∙ none |
     comment : (word : List ℕ) (more : Words) → command_in scope ((35 ∷ word) ∷ more) ≡ Ok command.Skip
     comment word more = refl
 
-put_steps : (tags : List Tag) (words : Words) (tag : List ℕ) (s : BlobSource) (t m : List ℕ) → slot (new_tag_of tags) wanted.NewTag words 1 ≡ Ok tag → source_in words 2 ≡ Ok s → type_option words 4 ≡ Ok t
+put_steps : (tags : List Tag) (words : Words) (tag : List ℕ) (s : BlobSource) (t m : List ℕ) → read_at (new_tag_of tags) wanted.NewTag words 1 ≡ Ok tag → source_in words 2 ≡ Ok s → type_option words 4 ≡ Ok t
     → metadata_option words (behind_option words 4 (codes "type")) ≡ Ok m → drop (behind_option words (behind_option words 4 (codes "type")) (codes "meta")) words ≡ [] → put_in tags words ≡ Ok (command.Put tag s t m)
 unfolding put_in
 put_steps tags words tag s t m tag_is s_is t_is m_is end =
     let p = behind_option words 4 (codes "type") in
     let q = behind_option words p (codes "meta") in
     let last = λ (tag : List ℕ) (s : BlobSource) (t : List ℕ) (m : List ℕ). ended words q (command.Put tag s t m) in
-    bind_is (slot (new_tag_of tags) wanted.NewTag words 1) (λ tag. source_in words 2 >>= λ s. type_option words 4 >>= λ t. metadata_option words p >>= λ m. last tag s t m) tag tag_is
+    bind_is (read_at (new_tag_of tags) wanted.NewTag words 1) (λ tag. source_in words 2 >>= λ s. type_option words 4 >>= λ t. metadata_option words p >>= λ m. last tag s t m) tag tag_is
     ∙ bind_is (source_in words 2) (λ s. type_option words 4 >>= λ t. metadata_option words p >>= λ m. last tag s t m) s s_is
     ∙ bind_is (type_option words 4) (λ t. metadata_option words p >>= λ m. last tag s t m) t t_is
     ∙ bind_is (metadata_option words p) (λ m. last tag s t m) m m_is
@@ -84,15 +82,15 @@ put_again scope tag s t m words spells =
     let ctype = type_option_again words 4 t typed metas source.1 spells.6 (no_type_before words 4 m metas spells.7) in
     let p = behind_option words 4 (codes "type") in
     let meta = metadata_option_again words p m (subst (SpellsMetadata m) (sym ctype.1) spells.7) in
-    put_steps scope.tags words tag s t m (slot_again (new_tag_of scope.tags) wanted.NewTag words 1 tag (from ++ (typed ++ metas)) tag first (new_tag_again scope.tags tag spells.4)) source.0 ctype.0 meta.0 meta.1
+    put_steps scope.tags words tag s t m (read_at_again (new_tag_of scope.tags) wanted.NewTag words 1 tag (from ++ (typed ++ metas)) tag first (new_tag_again scope.tags tag spells.4)) source.0 ctype.0 meta.0 meta.1
 
-get_steps : (tags : List Tag) (words : Words) (tag : List ℕ) (i : IdWord) (r : Option (ℕ × ℕ)) (f : Option (List ℕ)) → slot (new_tag_of tags) wanted.NewTag words 1 ≡ Ok tag → slot (id_word_of tags) wanted.Id words 2 ≡ Ok i → range_in words 3 ≡ Ok r
+get_steps : (tags : List Tag) (words : Words) (tag : List ℕ) (i : IdWord) (r : Option (ℕ × ℕ)) (f : Option (List ℕ)) → read_at (new_tag_of tags) wanted.NewTag words 1 ≡ Ok tag → read_at (id_word_of tags) wanted.Id words 2 ≡ Ok i → range_in words 3 ≡ Ok r
     → file_option words (behind_range r 3) ≡ Ok f → drop (behind_option words (behind_range r 3) (codes "file")) words ≡ [] → get_in tags words ≡ Ok (command.Get tag i r f)
 unfolding get_in
 get_steps tags words tag i r f tag_is i_is r_is f_is end =
     let last = λ (tag : List ℕ) (i : IdWord) (r : Option (ℕ × ℕ)) (f : Option (List ℕ)). ended words (behind_option words (behind_range r 3) (codes "file")) (command.Get tag i r f) in
-    bind_is (slot (new_tag_of tags) wanted.NewTag words 1) (λ tag. slot (id_word_of tags) wanted.Id words 2 >>= λ i. range_in words 3 >>= λ r. file_option words (behind_range r 3) >>= λ f. last tag i r f) tag tag_is
-    ∙ bind_is (slot (id_word_of tags) wanted.Id words 2) (λ i. range_in words 3 >>= λ r. file_option words (behind_range r 3) >>= λ f. last tag i r f) i i_is
+    bind_is (read_at (new_tag_of tags) wanted.NewTag words 1) (λ tag. read_at (id_word_of tags) wanted.Id words 2 >>= λ i. range_in words 3 >>= λ r. file_option words (behind_range r 3) >>= λ f. last tag i r f) tag tag_is
+    ∙ bind_is (read_at (id_word_of tags) wanted.Id words 2) (λ i. range_in words 3 >>= λ r. file_option words (behind_range r 3) >>= λ f. last tag i r f) i i_is
     ∙ bind_is (range_in words 3) (λ r. file_option words (behind_range r 3) >>= λ f. last tag i r f) r r_is
     ∙ bind_is (file_option words (behind_range r 3)) (λ f. last tag i r f) f f_is
     ∙ ended_again words (behind_option words (behind_range r 3) (codes "file")) (command.Get tag i r f) end
@@ -107,35 +105,35 @@ get_again scope tag i r f words spells =
     let third : drop 3 words ≡ ranged ++ named = ap (drop 3) spells.3 in
     let range = range_again words 3 r f ranged named third spells.6 spells.7 in
     let file = file_option_again words (behind_range r 3) f (subst (SpellsFile f) (sym range.1) spells.7) in
-    get_steps scope.tags words tag i r f (slot_again (new_tag_of scope.tags) wanted.NewTag words 1 tag (word ∷ (ranged ++ named)) tag first (new_tag_again scope.tags tag spells.4))
-    (slot_again (id_word_of scope.tags) wanted.Id words 2 word (ranged ++ named) i second (id_word_again scope.tags i word spells.5)) range.0 file.0 file.1
+    get_steps scope.tags words tag i r f (read_at_again (new_tag_of scope.tags) wanted.NewTag words 1 tag (word ∷ (ranged ++ named)) tag first (new_tag_again scope.tags tag spells.4))
+    (read_at_again (id_word_of scope.tags) wanted.Id words 2 word (ranged ++ named) i second (id_word_again scope.tags i word spells.5)) range.0 file.0 file.1
 
 info_again : (scope : Scope) (tag : List ℕ) (i : IdWord) (words : Words) → SpellsByWords scope (command.Info tag i) words → info_in scope.tags words ≡ Ok (command.Info tag i)
 unfolding info_in
 info_again scope tag i words spells =
     let tags = scope.tags in
-    let new = slot_again (new_tag_of tags) wanted.NewTag words 1 tag (spells.0 ∷ []) tag (ap (drop 1) spells.1) (new_tag_again tags tag spells.2) in
-    let named = slot_again (id_word_of tags) wanted.Id words 2 spells.0 [] i (ap (drop 2) spells.1) (id_word_again tags i spells.0 spells.3) in
-    bind_is (slot (new_tag_of tags) wanted.NewTag words 1) (λ tag. slot (id_word_of tags) wanted.Id words 2 >>= λ i. ended words 3 (command.Info tag i)) tag new
-    ∙ bind_is (slot (id_word_of tags) wanted.Id words 2) (λ i. ended words 3 (command.Info tag i)) i named
+    let new = read_at_again (new_tag_of tags) wanted.NewTag words 1 tag (spells.0 ∷ []) tag (ap (drop 1) spells.1) (new_tag_again tags tag spells.2) in
+    let named = read_at_again (id_word_of tags) wanted.Id words 2 spells.0 [] i (ap (drop 2) spells.1) (id_word_again tags i spells.0 spells.3) in
+    bind_is (read_at (new_tag_of tags) wanted.NewTag words 1) (λ tag. read_at (id_word_of tags) wanted.Id words 2 >>= λ i. ended words 3 (command.Info tag i)) tag new
+    ∙ bind_is (read_at (id_word_of tags) wanted.Id words 2) (λ i. ended words 3 (command.Info tag i)) i named
     ∙ ended_again words 3 (command.Info tag i) (ap (drop 3) spells.1)
 
 delete_again : (scope : Scope) (tag : List ℕ) (i : IdWord) (words : Words) → SpellsByWords scope (command.Delete tag i) words → delete_in scope.tags words ≡ Ok (command.Delete tag i)
 unfolding delete_in
 delete_again scope tag i words spells =
     let tags = scope.tags in
-    let new = slot_again (new_tag_of tags) wanted.NewTag words 1 tag (spells.0 ∷ []) tag (ap (drop 1) spells.1) (new_tag_again tags tag spells.2) in
-    let named = slot_again (id_word_of tags) wanted.Id words 2 spells.0 [] i (ap (drop 2) spells.1) (id_word_again tags i spells.0 spells.3) in
-    bind_is (slot (new_tag_of tags) wanted.NewTag words 1) (λ tag. slot (id_word_of tags) wanted.Id words 2 >>= λ i. ended words 3 (command.Delete tag i)) tag new
-    ∙ bind_is (slot (id_word_of tags) wanted.Id words 2) (λ i. ended words 3 (command.Delete tag i)) i named
+    let new = read_at_again (new_tag_of tags) wanted.NewTag words 1 tag (spells.0 ∷ []) tag (ap (drop 1) spells.1) (new_tag_again tags tag spells.2) in
+    let named = read_at_again (id_word_of tags) wanted.Id words 2 spells.0 [] i (ap (drop 2) spells.1) (id_word_again tags i spells.0 spells.3) in
+    bind_is (read_at (new_tag_of tags) wanted.NewTag words 1) (λ tag. read_at (id_word_of tags) wanted.Id words 2 >>= λ i. ended words 3 (command.Delete tag i)) tag new
+    ∙ bind_is (read_at (id_word_of tags) wanted.Id words 2) (λ i. ended words 3 (command.Delete tag i)) i named
     ∙ ended_again words 3 (command.Delete tag i) (ap (drop 3) spells.1)
 
 cancel_again : (scope : Scope) (tag : List ℕ) (words : Words) → SpellsByWords scope (command.Cancel tag) words → cancel_in scope.tags words ≡ Ok (command.Cancel tag)
 unfolding cancel_in
 cancel_again scope tag words spells =
     let tags = scope.tags in
-    let used = slot_again (used_tag_of tags) wanted.UsedTag words 1 tag [] tag (ap (drop 1) spells.0) (used_tag_again tags tag spells.1) in
-    bind_is (slot (used_tag_of tags) wanted.UsedTag words 1) (λ tag. ended words 2 (command.Cancel tag)) tag used
+    let used = read_at_again (used_tag_of tags) wanted.UsedTag words 1 tag [] tag (ap (drop 1) spells.0) (used_tag_again tags tag spells.1) in
+    bind_is (read_at (used_tag_of tags) wanted.UsedTag words 1) (λ tag. ended words 2 (command.Cancel tag)) tag used
     ∙ ended_again words 2 (command.Cancel tag) (ap (drop 2) spells.0)
 
 wait_again : (scope : Scope) (tag : Option (List ℕ)) (words : Words) → SpellsByWords scope (command.Wait tag) words → wait_in scope.tags words ≡ Ok (command.Wait tag)
@@ -143,44 +141,44 @@ unfolding wait_in
 wait_again scope None words spells = ap (wait_in scope.tags) spells
 wait_again scope (Some tag) words spells =
     let tags = scope.tags in
-    let used = slot_again (used_tag_of tags) wanted.UsedTag words 1 tag [] tag (ap (drop 1) spells.0) (used_tag_again tags tag spells.1) in
+    let used = read_at_again (used_tag_of tags) wanted.UsedTag words 1 tag [] tag (ap (drop 1) spells.0) (used_tag_again tags tag spells.1) in
     let more : nat_le (length words) 1 ≡ false = ap (λ (ws : Words). nat_le (length ws) 1) spells.0 in
-    ap (λ (b : Bool). cond b (done (command.Wait None)) (slot (used_tag_of tags) wanted.UsedTag words 1 >>= λ tag. ended words 2 (command.Wait (Some tag)))) more
-    ∙ bind_is (slot (used_tag_of tags) wanted.UsedTag words 1) (λ tag. ended words 2 (command.Wait (Some tag))) tag used
+    ap (λ (b : Bool). cond b (done (command.Wait None)) (read_at (used_tag_of tags) wanted.UsedTag words 1 >>= λ tag. ended words 2 (command.Wait (Some tag)))) more
+    ∙ bind_is (read_at (used_tag_of tags) wanted.UsedTag words 1) (λ tag. ended words 2 (command.Wait (Some tag))) tag used
     ∙ ended_again words 2 (command.Wait (Some tag)) (ap (drop 2) spells.0)
 
 drain_again : (scope : Scope) (node : ℕ) (on : Bool) (words : Words) → SpellsByWords scope (command.Drain node on) words → drain_in scope.shape on words ≡ Ok (command.Drain node on)
 unfolding drain_in
 drain_again scope node on words spells =
     let shape = scope.shape in
-    let is = slot_again (node_of shape) wanted.Node words 1 spells.0 [] node (ap (drop 1) spells.1) (node_again shape spells.0 node spells.2) in
-    bind_is (slot (node_of shape) wanted.Node words 1) (λ node. ended words 2 (command.Drain node on)) node is
+    let is = read_at_again (node_of shape) wanted.Node words 1 spells.0 [] node (ap (drop 1) spells.1) (node_again shape spells.0 node spells.2) in
+    bind_is (read_at (node_of shape) wanted.Node words 1) (λ node. ended words 2 (command.Drain node on)) node is
     ∙ ended_again words 2 (command.Drain node on) (ap (drop 2) spells.1)
 
 stop_again : (shape : Shape) (node : ℕ) (words : Words) → SpellsOrder shape (order.Stop node) words → stop_in shape words ≡ Ok (command.Admin (order.Stop node))
 unfolding stop_in
 stop_again shape node words spells =
-    let is = slot_again (node_of shape) wanted.Node words 1 spells.0 [] node (ap (drop 1) spells.1) (node_again shape spells.0 node spells.2) in
-    bind_is (slot (node_of shape) wanted.Node words 1) (λ node. ended words 2 (command.Admin (order.Stop node))) node is
+    let is = read_at_again (node_of shape) wanted.Node words 1 spells.0 [] node (ap (drop 1) spells.1) (node_again shape spells.0 node spells.2) in
+    bind_is (read_at (node_of shape) wanted.Node words 1) (λ node. ended words 2 (command.Admin (order.Stop node))) node is
     ∙ ended_again words 2 (command.Admin (order.Stop node)) (ap (drop 2) spells.1)
 
 restart_again : (shape : Shape) (node : ℕ) (words : Words) → SpellsOrder shape (order.Restart node) words → restart_in shape words ≡ Ok (command.Admin (order.Restart node))
 unfolding restart_in
 restart_again shape node words spells =
-    let is = slot_again (node_of shape) wanted.Node words 1 spells.0 [] node (ap (drop 1) spells.1) (node_again shape spells.0 node spells.2) in
-    bind_is (slot (node_of shape) wanted.Node words 1) (λ node. ended words 2 (command.Admin (order.Restart node))) node is
+    let is = read_at_again (node_of shape) wanted.Node words 1 spells.0 [] node (ap (drop 1) spells.1) (node_again shape spells.0 node spells.2) in
+    bind_is (read_at (node_of shape) wanted.Node words 1) (λ node. ended words 2 (command.Admin (order.Restart node))) node is
     ∙ ended_again words 2 (command.Admin (order.Restart node)) (ap (drop 2) spells.1)
 
 pull_again : (shape : Shape) (a b partition : ℕ) (words : Words) → SpellsOrder shape (order.Pull a b partition) words → pull_in shape words ≡ Ok (command.Admin (order.Pull a b partition))
 unfolding pull_in
 pull_again shape a b partition words (m, n, p, front, a_is, b_is, p_is, peers) =
     let last = λ (a : ℕ) (b : ℕ) (q : ℕ). where_true (are_peers shape q a b) (fault.Word 3 wanted.Holders) (ended words 4 (command.Admin (order.Pull a b q))) in
-    let first = slot_again (node_of shape) wanted.Node words 1 m (n ∷ p ∷ []) a (ap (drop 1) front) (node_again shape m a a_is) in
-    let second = slot_again (node_of shape) wanted.Node words 2 n (p ∷ []) b (ap (drop 2) front) (node_again shape n b b_is) in
-    let third = slot_again (partition_of shape) wanted.Partition words 3 p [] partition (ap (drop 3) front) (partition_again shape p partition p_is) in
-    bind_is (slot (node_of shape) wanted.Node words 1) (λ a. slot (node_of shape) wanted.Node words 2 >>= λ b. slot (partition_of shape) wanted.Partition words 3 >>= λ q. last a b q) a first
-    ∙ bind_is (slot (node_of shape) wanted.Node words 2) (λ b. slot (partition_of shape) wanted.Partition words 3 >>= λ q. last a b q) b second
-    ∙ bind_is (slot (partition_of shape) wanted.Partition words 3) (λ q. last a b q) partition third
+    let first = read_at_again (node_of shape) wanted.Node words 1 m (n ∷ p ∷ []) a (ap (drop 1) front) (node_again shape m a a_is) in
+    let second = read_at_again (node_of shape) wanted.Node words 2 n (p ∷ []) b (ap (drop 2) front) (node_again shape n b b_is) in
+    let third = read_at_again (partition_of shape) wanted.Partition words 3 p [] partition (ap (drop 3) front) (partition_again shape p partition p_is) in
+    bind_is (read_at (node_of shape) wanted.Node words 1) (λ a. read_at (node_of shape) wanted.Node words 2 >>= λ b. read_at (partition_of shape) wanted.Partition words 3 >>= λ q. last a b q) a first
+    ∙ bind_is (read_at (node_of shape) wanted.Node words 2) (λ b. read_at (partition_of shape) wanted.Partition words 3 >>= λ q. last a b q) b second
+    ∙ bind_is (read_at (partition_of shape) wanted.Partition words 3) (λ q. last a b q) partition third
     ∙ ap (λ (t : Bool). where_true t (fault.Word 3 wanted.Holders) (ended words 4 (command.Admin (order.Pull a b partition)))) (peers_again shape partition a b peers)
     ∙ ended_again words 4 (command.Admin (order.Pull a b partition)) (ap (drop 4) front)
 
@@ -188,10 +186,10 @@ compact_again : (shape : Shape) (node partition : ℕ) (words : Words) → Spell
 unfolding compact_in
 compact_again shape node partition words (n, p, front, n_is, p_is, held) =
     let last = λ (a : ℕ) (q : ℕ). where_true (holds shape q a) (fault.Word 2 wanted.Holders) (ended words 3 (command.Admin (order.Compact a q))) in
-    let first = slot_again (node_of shape) wanted.Node words 1 n (p ∷ []) node (ap (drop 1) front) (node_again shape n node n_is) in
-    let second = slot_again (partition_of shape) wanted.Partition words 2 p [] partition (ap (drop 2) front) (partition_again shape p partition p_is) in
-    bind_is (slot (node_of shape) wanted.Node words 1) (λ a. slot (partition_of shape) wanted.Partition words 2 >>= λ q. last a q) node first
-    ∙ bind_is (slot (partition_of shape) wanted.Partition words 2) (λ q. last node q) partition second
+    let first = read_at_again (node_of shape) wanted.Node words 1 n (p ∷ []) node (ap (drop 1) front) (node_again shape n node n_is) in
+    let second = read_at_again (partition_of shape) wanted.Partition words 2 p [] partition (ap (drop 2) front) (partition_again shape p partition p_is) in
+    bind_is (read_at (node_of shape) wanted.Node words 1) (λ a. read_at (partition_of shape) wanted.Partition words 2 >>= λ q. last a q) node first
+    ∙ bind_is (read_at (partition_of shape) wanted.Partition words 2) (λ q. last node q) partition second
     ∙ ap (λ (t : Bool). where_true t (fault.Word 2 wanted.Holders) (ended words 3 (command.Admin (order.Compact node partition)))) held
     ∙ ended_again words 3 (command.Admin (order.Compact node partition)) (ap (drop 3) front)
 
@@ -199,12 +197,12 @@ level_again : (shape : Shape) (partition a b : ℕ) (words : Words) → SpellsOr
 unfolding level_in
 level_again shape partition a b words (p, m, n, front, p_is, a_is, b_is, peers) =
     let last = λ (q : ℕ) (a : ℕ) (b : ℕ). where_true (are_peers shape q a b) (fault.Word 3 wanted.Holders) (ended words 4 (command.Admin (order.Level q a b))) in
-    let first = slot_again (partition_of shape) wanted.Partition words 1 p (m ∷ n ∷ []) partition (ap (drop 1) front) (partition_again shape p partition p_is) in
-    let second = slot_again (node_of shape) wanted.Node words 2 m (n ∷ []) a (ap (drop 2) front) (node_again shape m a a_is) in
-    let third = slot_again (node_of shape) wanted.Node words 3 n [] b (ap (drop 3) front) (node_again shape n b b_is) in
-    bind_is (slot (partition_of shape) wanted.Partition words 1) (λ q. slot (node_of shape) wanted.Node words 2 >>= λ a. slot (node_of shape) wanted.Node words 3 >>= λ b. last q a b) partition first
-    ∙ bind_is (slot (node_of shape) wanted.Node words 2) (λ a. slot (node_of shape) wanted.Node words 3 >>= λ b. last partition a b) a second
-    ∙ bind_is (slot (node_of shape) wanted.Node words 3) (λ b. last partition a b) b third
+    let first = read_at_again (partition_of shape) wanted.Partition words 1 p (m ∷ n ∷ []) partition (ap (drop 1) front) (partition_again shape p partition p_is) in
+    let second = read_at_again (node_of shape) wanted.Node words 2 m (n ∷ []) a (ap (drop 2) front) (node_again shape m a a_is) in
+    let third = read_at_again (node_of shape) wanted.Node words 3 n [] b (ap (drop 3) front) (node_again shape n b b_is) in
+    bind_is (read_at (partition_of shape) wanted.Partition words 1) (λ q. read_at (node_of shape) wanted.Node words 2 >>= λ a. read_at (node_of shape) wanted.Node words 3 >>= λ b. last q a b) partition first
+    ∙ bind_is (read_at (node_of shape) wanted.Node words 2) (λ a. read_at (node_of shape) wanted.Node words 3 >>= λ b. last partition a b) a second
+    ∙ bind_is (read_at (node_of shape) wanted.Node words 3) (λ b. last partition a b) b third
     ∙ ap (λ (t : Bool). where_true t (fault.Word 3 wanted.Holders) (ended words 4 (command.Admin (order.Level partition a b)))) (peers_again shape partition a b peers)
     ∙ ended_again words 4 (command.Admin (order.Level partition a b)) (ap (drop 4) front)
 

@@ -1,25 +1,18 @@
 -- The words of an outcome, one by one.
-use Rattle.std.proofs.Common.{◌≡◌, ◌≢◌, ◌∙◌, inl, inr, ℕ, zero, suc, ◌+◌, ◌<◌, ◌≤◌, ◌^◌, ◌&&◌, nat_eq, nat_lt, not, Bool, true, false, cond, codes, Result, Ok, Err, List, [], ◌∷◌, ◌++◌, length, map, flat_map, refl, sym, ap, ap₂, subst, arith, true≢false, append_assoc}
+use Rattle.std.proofs.Common.{◌≡◌, ◌∙◌, ℕ, ◌<◌, true, codes, List, [], ◌∷◌, ◌++◌, length, map, refl, sym, ap, arith, append_assoc}
 use Rattle.std.specs.Fmt.{decimal}
-use Rattle.std.specs.List.{AllByRecursion, list_all, slice_split}
-use Rattle.std.specs.Str.{bytes_eq}
-use Rattle.std.specs.Str.Parse.{digits_value}
+use Rattle.std.specs.List.{AllByRecursion, list_all}
 use Rattle.std.proofs.lemmas.Bool.Decides.{nat_tests}
-use Rattle.std.proofs.lemmas.Fmt.{decimal_is_IsNumeral}
 use Rattle.std.proofs.lemmas.List.{append-nil}
 use Rattle.std.proofs.lemmas.List.Folds.{list_all-append}
-use Rattle.std.proofs.lemmas.Slice.Eq.{bytes_eq-Decides}
-use Rattle.hex.specs.Hex.{IsBytes, decode_of, encode_lower}
-use Rattle.hex.specs.declared.error.FromHexError.{FromHexError}
-use Rattle.hex.proofs.HexLemmas.{decode_of-encode_lower}
+use Rattle.hex.specs.Hex.{IsBytes, encode_lower}
 use Rattle.blob_id.specs.Blob.{is_type_byte}
 use Rattle.blob_id.specs.Id.{IsId}
 use Rattle.quorum_op.specs.declared.cause.Cause.{Cause}
 use Rattle.quorum_op.specs.declared.outcome.Outcome.{Outcome}
-use Rattle.session_text.specs.Texts.{is_blank, joined}
-use Rattle.session_text.specs.Outcomes.{spelled_bytes, cause_word, failure_words, failures_words, type_words, outcome_words, IsFailure, IsOutcome}
-use Rattle.session_text.proofs.ChoiceLemmas.{both}
-use Rattle.session_text.proofs.JoinLemmas.{is_mark, IsPlain, every_byte, split_joined, decimal_plain, decimal_no_colon, hex_plain}
+use Rattle.session_text.specs.Texts.{joined}
+use Rattle.session_text.specs.Outcomes.{spelled_bytes, cause_word, failures_words, type_words, outcome_words, IsFailure, IsOutcome}
+use Rattle.session_text.proofs.JoinLemmas.{is_mark, IsPlain, every_byte, decimal_plain, hex_plain}
 
 -- ---- the words, one by one
 

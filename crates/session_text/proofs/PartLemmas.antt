@@ -1,9 +1,8 @@
 -- What the parts of a line are read as is what their words spell, and the other way round.
-use Rattle.std.proofs.Common.{◌≡◌, ◌∙◌, ◌⊎◌, inl, inr, ℕ, ◌+◌, ◌≤◌, ◌||◌, nat_le, Bool, true, false, cond, codes, Option, Some, None, Result, Ok, Err, List, [], ◌∷◌, ◌++◌, length, drop, refl, sym, ap, ap₂, subst, arith, true≢false}
+use Rattle.std.proofs.Common.{◌≡◌, ◌∙◌, inl, inr, ℕ, ◌+◌, ◌≤◌, ◌||◌, nat_le, Bool, true, false, cond, codes, Option, Some, None, Result, Ok, Err, List, [], ◌∷◌, ◌++◌, length, drop, refl, sym, ap, ap₂, subst, arith, true≢false}
 use Rattle.std.specs.Str.{bytes_eq}
 use Rattle.std.proofs.lemmas.Bool.Decides.{nat_tests}
 use Rattle.run_words.specs.Options.{is_numeral, IsNumeral}
-use Rattle.run_words.specs.Pathnames.{is_pathname}
 use Rattle.run_words.specs.Reading.{number_at}
 use Rattle.run_words.proofs.NumberLemmas.{number_takes, number_again}
 use Rattle.session_text.specs.declared.fault.LineFault.{LineFault}
@@ -12,10 +11,10 @@ use Rattle.session_text.specs.declared.fault.Wanted.TheVariants as wanted
 use Rattle.session_text.specs.declared.command.BlobSource.{BlobSource}
 use Rattle.session_text.specs.declared.command.BlobSource.TheVariants as source
 use Rattle.session_text.specs.Texts.{is_type, bytes_of_digits}
-use Rattle.session_text.specs.Spelling.{IsHex, SpellsSource, SpellsType, SpellsMetadata, SpellsRange, SpellsFile}
-use Rattle.session_text.specs.Reading.{◌>>=◌, slot, has_word, behind_option, metadata_of, file_name_of, type_of, source_in, type_option, metadata_option, file_option, range_in, behind_range}
+use Rattle.session_text.specs.Spelling.{SpellsSource, SpellsType, SpellsMetadata, SpellsRange, SpellsFile}
+use Rattle.session_text.specs.Reading.{◌>>=◌, read_at, has_word, behind_option, metadata_of, file_name_of, type_of, source_in, type_option, metadata_option, file_option, range_in, behind_range}
 use Rattle.session_text.proofs.ChoiceLemmas.{chosen, same_text}
-use Rattle.session_text.proofs.PlaceLemmas.{done, done_is, bind_ok, none_behind, two_behind, rest_behind, rest_behind_two, few_words, slot_takes, slot_again, slot_first, has_word_takes, has_word_is, has_no_word, option_takes, option_again}
+use Rattle.session_text.proofs.PlaceLemmas.{done, done_is, bind_ok, none_behind, two_behind, rest_behind, rest_behind_two, few_words, read_at_again, read_at_first, has_word_takes, has_word_is, has_no_word, option_takes, option_again}
 use Rattle.session_text.proofs.WordLemmas.{hex_takes, hex_again, metadata_takes, metadata_again, file_name_takes, file_name_again, type_takes, type_again}
 
 -- ---- the source of a put
@@ -24,7 +23,7 @@ pub source_takes : (words : List (List ℕ)) (place : ℕ) (s : BlobSource) → 
 unfolding source_in
 source_takes words place s e = elim (chosen (has_word words place (codes "hex")) lined other (Ok s) e) [
   | inl p ↦
-      let b = slot_first bytes_of_digits wanted.Digits words (place + 1) (λ bytes. Ok (source.Line bytes)) s p.1 in
+      let b = read_at_first bytes_of_digits wanted.Digits words (place + 1) (λ bytes. Ok (source.Line bytes)) s p.1 in
       let is : source.Line b.0 ≡ s = done_is (source.Line b.0) s b.4 in (
         codes "hex" ∷ b.1 ∷ [],
         two_behind words place (codes "hex") b.1 (has_word_takes words place (codes "hex") p.0) b.2,
@@ -32,7 +31,7 @@ source_takes words place s e = elim (chosen (has_word words place (codes "hex"))
       )
   | inr p ↦ elim (chosen (has_word words place (codes "file")) named none (Ok s) p.1) [
     | inl q ↦
-        let b = slot_first file_name_of wanted.FileName words (place + 1) (λ file. Ok (source.File file)) s q.1 in
+        let b = read_at_first file_name_of wanted.FileName words (place + 1) (λ file. Ok (source.File file)) s q.1 in
         let is : source.File b.0 ≡ s = done_is (source.File b.0) s b.4 in
         let f = file_name_takes b.1 b.0 b.3 in (
           codes "file" ∷ b.1 ∷ [],
@@ -44,10 +43,10 @@ source_takes words place s e = elim (chosen (has_word words place (codes "hex"))
 ]
   where
     lined : Result BlobSource LineFault
-    lined = slot bytes_of_digits wanted.Digits words (place + 1) >>= λ bytes. Ok (source.Line bytes)
+    lined = read_at bytes_of_digits wanted.Digits words (place + 1) >>= λ bytes. Ok (source.Line bytes)
 
     named : Result BlobSource LineFault
-    named = slot file_name_of wanted.FileName words (place + 1) >>= λ file. Ok (source.File file)
+    named = read_at file_name_of wanted.FileName words (place + 1) >>= λ file. Ok (source.File file)
 
     none : Result BlobSource LineFault
     none = Err (fault.Word place wanted.SourceForm)
@@ -78,7 +77,7 @@ typed (b ∷ bytes) words same e = (same, e)
 pub type_option_takes : (words : List (List ℕ)) (place : ℕ) (ctype : List ℕ) → type_option words place ≡ Ok ctype
     → (types : List (List ℕ)) × (drop place words ≡ types ++ drop (behind_option words place (codes "type")) words) × SpellsType ctype types
 unfolding type_option
-type_option_takes words place ctype e = elim (chosen (has_word words place (codes "type")) (slot type_of wanted.BlobType words (place + 1)) (Ok []) (Ok ctype) e) [
+type_option_takes words place ctype e = elim (chosen (has_word words place (codes "type")) (read_at type_of wanted.BlobType words (place + 1)) (Ok []) (Ok ctype) e) [
   | inl p ↦
       let o = option_takes type_of wanted.BlobType words place (codes "type") ctype p.0 p.1 in
       let t = type_takes o.0 ctype o.2 in
@@ -106,7 +105,7 @@ type_option_again words place (b ∷ bytes) types rest stands spells other =
 pub metadata_option_takes : (words : List (List ℕ)) (place : ℕ) (meta : List ℕ) → metadata_option words place ≡ Ok meta → drop (behind_option words place (codes "meta")) words ≡ []
     → SpellsMetadata meta (drop place words)
 unfolding metadata_option
-metadata_option_takes words place meta e end = elim (chosen (has_word words place (codes "meta")) (slot metadata_of wanted.Metadata words (place + 1)) (Ok []) (Ok meta) e) [
+metadata_option_takes words place meta e end = elim (chosen (has_word words place (codes "meta")) (read_at metadata_of wanted.Metadata words (place + 1)) (Ok []) (Ok meta) e) [
   | inl p ↦
       let o = option_takes metadata_of wanted.Metadata words place (codes "meta") meta p.0 p.1 in
       let m = metadata_takes o.0 meta o.2 in
@@ -140,7 +139,7 @@ pub file_option_takes : (words : List (List ℕ)) (place : ℕ) (file : Option (
 unfolding file_option
 file_option_takes words place file e end = elim (chosen (has_word words place (codes "file")) named (Ok None) (Ok file) e) [
   | inl p ↦
-      let b = bind_ok (slot file_name_of wanted.FileName words (place + 1)) (λ name. Ok (Some name)) file p.1 in
+      let b = bind_ok (read_at file_name_of wanted.FileName words (place + 1)) (λ name. Ok (Some name)) file p.1 in
       let o = option_takes file_name_of wanted.FileName words place (codes "file") b.0 p.0 b.1 in
       let f = file_name_takes o.0 b.0 o.2 in
       let is : Some b.0 ≡ file = done_is (Some b.0) file b.2 in
@@ -152,7 +151,7 @@ file_option_takes words place file e end = elim (chosen (has_word words place (c
 ]
   where
     named : Result (Option (List ℕ)) LineFault
-    named = slot file_name_of wanted.FileName words (place + 1) >>= λ name. Ok (Some name)
+    named = read_at file_name_of wanted.FileName words (place + 1) >>= λ name. Ok (Some name)
 
 pub file_option_again : (words : List (List ℕ)) (place : ℕ) (file : Option (List ℕ)) → SpellsFile file (drop place words)
     → (file_option words place ≡ Ok file) × (drop (behind_option words place (codes "file")) words ≡ [])
@@ -174,15 +173,15 @@ range_takes words place range e = elim (chosen (nat_le (length words) place || h
       let is : None ≡ range = done_is None range p.1 in
       subst (λ (x : Option (ℕ × ℕ)). (ranged : List (List ℕ)) × (drop place words ≡ ranged ++ drop (behind_range x place) words) × SpellsRange x ranged) is ([], refl, refl)
   | inr p ↦
-      let a = slot_first number_at wanted.Number words place (λ from. slot number_at wanted.Number words (place + 1) >>= λ len. Ok (Some (from, len))) range p.1 in
-      let b = slot_first number_at wanted.Number words (place + 1) (λ len. Ok (Some (a.0, len))) range a.4 in
+      let a = read_at_first number_at wanted.Number words place (λ from. read_at number_at wanted.Number words (place + 1) >>= λ len. Ok (Some (from, len))) range p.1 in
+      let b = read_at_first number_at wanted.Number words (place + 1) (λ len. Ok (Some (a.0, len))) range a.4 in
       let is : Some (a.0, b.0) ≡ range = done_is (Some (a.0, b.0)) range b.4 in
       subst (λ (x : Option (ℕ × ℕ)). (ranged : List (List ℕ)) × (drop place words ≡ ranged ++ drop (behind_range x place) words) × SpellsRange x ranged) is
       (a.1 ∷ b.1 ∷ [], two_behind words place a.1 b.1 a.2 b.2, (a.1, b.1, refl, number_takes a.1 a.0 a.3, number_takes b.1 b.0 b.3))
 ]
   where
     numbers : Result (Option (ℕ × ℕ)) LineFault
-    numbers = slot number_at wanted.Number words place >>= λ from. slot number_at wanted.Number words (place + 1) >>= λ len. Ok (Some (from, len))
+    numbers = read_at number_at wanted.Number words place >>= λ from. read_at number_at wanted.Number words (place + 1) >>= λ len. Ok (Some (from, len))
 
 -- a number is no word
 not_file : (text : List ℕ) (n : ℕ) → IsNumeral text n → bytes_eq text (codes "file") ≡ false
@@ -232,6 +231,6 @@ range_again words place (Some range) file ranged named stands spells end =
     let here : drop place words ≡ spells.0 ∷ spells.1 ∷ named = stands ∙ ap (λ (r : List (List ℕ)). r ++ named) spells.2 in
     let some = more_words words place spells.0 (spells.1 ∷ named) here in
     let no : has_word words place (codes "file") ≡ false = has_word_is words place spells.0 (spells.1 ∷ named) (codes "file") here ∙ not_file spells.0 range.0 spells.3 in
-    let from = slot_again number_at wanted.Number words place spells.0 (spells.1 ∷ named) range.0 here (number_again spells.0 range.0 spells.3) in
-    let len = slot_again number_at wanted.Number words (place + 1) spells.1 named range.1 (rest_behind words place spells.0 (spells.1 ∷ named) here) (number_again spells.1 range.1 spells.4) in
+    let from = read_at_again number_at wanted.Number words place spells.0 (spells.1 ∷ named) range.0 here (number_again spells.0 range.0 spells.3) in
+    let len = read_at_again number_at wanted.Number words (place + 1) spells.1 named range.1 (rest_behind words place spells.0 (spells.1 ∷ named) here) (number_again spells.1 range.1 spells.4) in
     (rw (or_none (nat_le (length words) place) (has_word words place (codes "file")) some no, from, len) refl, rest_behind_two words place spells.0 spells.1 named here)

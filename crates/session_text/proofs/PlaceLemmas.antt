@@ -1,5 +1,5 @@
 -- What stands at a place of a line, and what behind it.
-use Rattle.std.proofs.Common.{◌≡◌, ◌∙◌, ℕ, zero, suc, ◌+◌, ◌≤◌, Bool, true, false, nat_le, Option, Some, None, option_and_then, Result, Ok, Err, List, [], ◌∷◌, ◌++◌, length, drop, slice_get, refl, sym, ap, subst, arith}
+use Rattle.std.proofs.Common.{◌≡◌, ◌∙◌, ℕ, zero, suc, ◌+◌, ◌≤◌, Bool, true, false, nat_le, Option, Some, None, option_and_then, Result, Ok, Err, List, [], ◌∷◌, length, drop, slice_get, refl, sym, ap, arith}
 use Rattle.std.specs.Str.{bytes_eq}
 use Rattle.std.proofs.lemmas.Bool.Decides.{nat_tests}
 use Rattle.std.proofs.lemmas.Slice.Eq.{bytes_eq-Decides}
@@ -8,7 +8,7 @@ use Rattle.session_text.specs.declared.fault.LineFault.TheVariants as fault
 use Rattle.session_text.specs.declared.fault.Wanted.{Wanted}
 use Rattle.session_text.specs.declared.fault.Wanted.TheVariants as wanted
 use Rattle.session_text.specs.declared.command.Command.{Command}
-use Rattle.session_text.specs.Reading.{◌>>=◌, where_true, found_or, slot, is_text, has_word, ended, behind_option}
+use Rattle.session_text.specs.Reading.{◌>>=◌, where_true, found_or, read_at, is_text, has_word, ended, behind_option}
 use Rattle.session_text.proofs.ChoiceLemmas.{some_is, same_text}
 
 -- ---- steps
@@ -80,30 +80,30 @@ rest_behind_two words place a b rest e =
     let same : place + 1 + 1 ≡ place + 2 = omega arith in
     ap (λ (n : ℕ). drop n words) (sym same) ∙ rest_behind words (place + 1) b rest (rest_behind words place a (b ∷ rest) e)
 
--- ---- slots
+-- ---- the word at a place
 
-pub slot_takes : {A : Type 0} (of : List ℕ → Option A) (wants : Wanted) (words : List (List ℕ)) (place : ℕ) (x : A) → slot of wants words place ≡ Ok x
+pub read_at_takes : {A : Type 0} (of : List ℕ → Option A) (wants : Wanted) (words : List (List ℕ)) (place : ℕ) (x : A) → read_at of wants words place ≡ Ok x
     → (word : List ℕ) × (drop place words ≡ word ∷ drop (place + 1) words) × (of word ≡ Some x)
-slot_takes {A} of wants words place x e = by (slice_get words place) refl e
+read_at_takes {A} of wants words place x e = by (slice_get words place) refl e
   where
     by : (at : Option (List ℕ)) → slice_get words place ≡ at → found_or (option_and_then of at) (fault.Word place wants) ≡ Ok x
         → (word : List ℕ) × (drop place words ≡ word ∷ drop (place + 1) words) × (of word ≡ Some x)
     by None same e = absurd cc
     by (Some word) same e = (word, first_behind words place word same, found_is (of word) (fault.Word place wants) x e)
 
-pub slot_again : {A : Type 0} (of : List ℕ → Option A) (wants : Wanted) (words : List (List ℕ)) (place : ℕ) (word : List ℕ) (rest : List (List ℕ)) (x : A)
-    → drop place words ≡ word ∷ rest → of word ≡ Some x → slot of wants words place ≡ Ok x
-slot_again of wants words place word rest x stands is =
+pub read_at_again : {A : Type 0} (of : List ℕ → Option A) (wants : Wanted) (words : List (List ℕ)) (place : ℕ) (word : List ℕ) (rest : List (List ℕ)) (x : A)
+    → drop place words ≡ word ∷ rest → of word ≡ Some x → read_at of wants words place ≡ Ok x
+read_at_again of wants words place word rest x stands is =
     ap (λ (at : Option (List ℕ)). found_or (option_and_then of at) (fault.Word place wants)) (word_behind words place word rest stands)
     ∙ ap (λ (found : Option _). found_or found (fault.Word place wants)) is
 
--- a slot and what is read behind it
-pub slot_first : {A B : Type 0} (of : List ℕ → Option A) (wants : Wanted) (words : List (List ℕ)) (place : ℕ) (next : A → Result B LineFault) (y : B)
-    → (slot of wants words place >>= next) ≡ Ok y
+-- a read_at and what is read behind it
+pub read_at_first : {A B : Type 0} (of : List ℕ → Option A) (wants : Wanted) (words : List (List ℕ)) (place : ℕ) (next : A → Result B LineFault) (y : B)
+    → (read_at of wants words place >>= next) ≡ Ok y
     → (x : A) × (word : List ℕ) × (drop place words ≡ word ∷ drop (place + 1) words) × (of word ≡ Some x) × (next x ≡ Ok y)
-slot_first of wants words place next y e =
-    let b = bind_ok (slot of wants words place) next y e in
-    let t = slot_takes of wants words place b.0 b.1 in
+read_at_first of wants words place next y e =
+    let b = bind_ok (read_at of wants words place) next y e in
+    let t = read_at_takes of wants words place b.0 b.1 in
     (b.0, t.0, t.1, t.2, b.2)
 
 pub ended_takes : (words : List (List ℕ)) (place : ℕ) (made c : Command) → ended words place made ≡ Ok c → (drop place words ≡ []) × (made ≡ c)
@@ -145,15 +145,15 @@ has_no_word words place text none = ap (λ (at : Option (List ℕ)). is_text at 
 
 -- an optional word, and the one that belongs to it
 pub option_takes : {A : Type 0} (of : List ℕ → Option A) (wants : Wanted) (words : List (List ℕ)) (place : ℕ) (text : List ℕ) (x : A)
-    → has_word words place text ≡ true → slot of wants words (place + 1) ≡ Ok x
+    → has_word words place text ≡ true → read_at of wants words (place + 1) ≡ Ok x
     → (word : List ℕ) × (drop place words ≡ text ∷ word ∷ drop (behind_option words place text) words) × (of word ≡ Some x)
 option_takes of wants words place text x there e =
-    let t = slot_takes of wants words (place + 1) x e in
+    let t = read_at_takes of wants words (place + 1) x e in
     (t.0, rw there (two_behind words place text t.0 (has_word_takes words place text there) t.1), t.2)
 
 pub option_again : {A : Type 0} (of : List ℕ → Option A) (wants : Wanted) (words : List (List ℕ)) (place : ℕ) (text word : List ℕ) (rest : List (List ℕ)) (x : A)
     → drop place words ≡ text ∷ word ∷ rest → of word ≡ Some x
-    → (has_word words place text ≡ true) × (slot of wants words (place + 1) ≡ Ok x) × (drop (behind_option words place text) words ≡ rest)
+    → (has_word words place text ≡ true) × (read_at of wants words (place + 1) ≡ Ok x) × (drop (behind_option words place text) words ≡ rest)
 option_again of wants words place text word rest x stands is =
     let there = has_word_again words place text (word ∷ rest) stands in
-    (there, slot_again of wants words (place + 1) word rest x (rest_behind words place text (word ∷ rest) stands) is, rw there (rest_behind_two words place text word rest stands))
+    (there, read_at_again of wants words (place + 1) word rest x (rest_behind words place text (word ∷ rest) stands) is, rw there (rest_behind_two words place text word rest stands))

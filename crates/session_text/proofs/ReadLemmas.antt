@@ -1,10 +1,7 @@
 -- What a line is read as is what it spells.
-use Rattle.std.proofs.Common.{◌≡◌, ◌≢◌, ◌∙◌, inl, inr, ℕ, ◌≤◌, not, nat_eq, nat_le, nat_lt, Bool, true, false, cond, codes, Option, Some, None, Result, Ok, Err, List, [], ◌∷◌, ◌++◌, length, drop, refl, sym, ap, ap₂, subst, arith, true≢false, IfOk, MatchResult}
+use Rattle.std.proofs.Common.{◌≡◌, ◌∙◌, inl, inr, ℕ, ◌≤◌, not, nat_le, nat_lt, Bool, true, false, codes, Option, Some, None, Result, Ok, List, [], ◌∷◌, ◌++◌, length, drop, refl, sym, ap, ap₂, subst, arith, true≢false}
 use Rattle.std.proofs.lemmas.Bool.Decides.{nat_tests}
-use Rattle.world_model.specs.declared.order.Order.{Order}
 use Rattle.world_model.specs.declared.order.Order.TheVariants as order
-use Rattle.world_model.specs.declared.shape.Shape.{Shape}
-use Rattle.session_text.specs.declared.tags.Tag.{Tag}
 use Rattle.session_text.specs.declared.tags.Scope.{Scope}
 use Rattle.session_text.specs.declared.fault.LineFault.{LineFault}
 use Rattle.session_text.specs.declared.fault.LineFault.TheVariants as fault
@@ -15,16 +12,15 @@ use Rattle.session_text.specs.declared.command.BlobSource.{BlobSource}
 use Rattle.session_text.specs.declared.command.IdWord.{IdWord}
 use Rattle.session_text.specs.declared.command.Command.{Command}
 use Rattle.session_text.specs.declared.command.Command.TheVariants as command
-use Rattle.session_text.specs.Tags.{is_used_tag}
-use Rattle.session_text.specs.Texts.{words_of, is_comment, is_nothing}
+use Rattle.session_text.specs.Texts.{words_of, is_nothing}
 use Rattle.session_text.specs.Names.{name_text, name_at}
-use Rattle.session_text.specs.Places.{node_of, partition_of, holds, are_peers}
-use Rattle.session_text.specs.Spelling.{longest_line, IsNothing, SpellsMetadata, SpellsFile, drain_word, SpellsOrder, SpellsByWords, Spells}
-use Rattle.session_text.specs.Reading.{◌>>=◌, where_true, Gives, slot, ended, new_tag_of, used_tag_of, id_word_of, source_in, type_option, metadata_option, file_option, range_in, behind_option, behind_range, put_in, get_in, info_in, delete_in, cancel_in, wait_in, drain_in, stop_in, restart_in, pull_in, compact_in, level_in, command_behind, command_in, line_in}
+use Rattle.session_text.specs.Holders.{node_of, partition_of, holds, are_peers}
+use Rattle.session_text.specs.Spelling.{longest_line, IsNothing, drain_word, SpellsByWords, Spells}
+use Rattle.session_text.specs.Reading.{◌>>=◌, where_true, read_at, ended, new_tag_of, used_tag_of, id_word_of, source_in, type_option, metadata_option, file_option, range_in, behind_option, behind_range, put_in, get_in, info_in, delete_in, cancel_in, wait_in, drain_in, stop_in, restart_in, pull_in, compact_in, level_in, command_behind, command_in, line_in}
 use Rattle.session_text.proofs.ChoiceLemmas.{chosen}
-use Rattle.session_text.proofs.PlaceLemmas.{done, done_is, bind_ok, bind_is, where_ok, slot_first, slot_again, ended_takes, ended_again, few_words, none_behind}
-use Rattle.session_text.proofs.WordLemmas.{name_takes, name_again, new_tag_takes, new_tag_again, used_tag_takes, used_tag_again, id_word_takes, id_word_again, node_takes, node_again, partition_takes, partition_again, peers_take, peers_again}
-use Rattle.session_text.proofs.PartLemmas.{source_takes, source_again, type_option_takes, type_option_again, metadata_option_takes, metadata_option_again, no_type_before, file_option_takes, file_option_again, range_takes, range_again}
+use Rattle.session_text.proofs.PlaceLemmas.{done_is, bind_ok, where_ok, read_at_first, ended_takes, none_behind}
+use Rattle.session_text.proofs.WordLemmas.{name_takes, new_tag_takes, used_tag_takes, id_word_takes, node_takes, partition_takes, peers_take}
+use Rattle.session_text.proofs.PartLemmas.{source_takes, type_option_takes, metadata_option_takes, file_option_takes, range_takes}
 
 -- ---- words in front of others
 
@@ -58,7 +54,7 @@ put_takes scope words c front e =
     let p = behind_option words 4 (codes "type") in
     let q = behind_option words p (codes "meta") in
     let last = λ (tag : List ℕ) (s : BlobSource) (t : List ℕ) (m : List ℕ). ended words q (command.Put tag s t m) in
-    let a = slot_first (new_tag_of tags) wanted.NewTag words 1 (λ tag. source_in words 2 >>= λ s. type_option words 4 >>= λ t. metadata_option words p >>= λ m. last tag s t m) c e in
+    let a = read_at_first (new_tag_of tags) wanted.NewTag words 1 (λ tag. source_in words 2 >>= λ s. type_option words 4 >>= λ t. metadata_option words p >>= λ m. last tag s t m) c e in
     let b = bind_ok (source_in words 2) (λ s. type_option words 4 >>= λ t. metadata_option words p >>= λ m. last a.0 s t m) c a.4 in
     let d = bind_ok (type_option words 4) (λ t. metadata_option words p >>= λ m. last a.0 b.0 t m) c b.2 in
     let f = bind_ok (metadata_option words p) (λ m. last a.0 b.0 d.0 m) c d.2 in
@@ -77,8 +73,8 @@ unfolding get_in
 get_takes scope words c front e =
     let tags = scope.tags in
     let last = λ (tag : List ℕ) (i : IdWord) (r : Option (ℕ × ℕ)) (f : Option (List ℕ)). ended words (behind_option words (behind_range r 3) (codes "file")) (command.Get tag i r f) in
-    let a = slot_first (new_tag_of tags) wanted.NewTag words 1 (λ tag. slot (id_word_of tags) wanted.Id words 2 >>= λ i. range_in words 3 >>= λ r. file_option words (behind_range r 3) >>= λ f. last tag i r f) c e in
-    let b = slot_first (id_word_of tags) wanted.Id words 2 (λ i. range_in words 3 >>= λ r. file_option words (behind_range r 3) >>= λ f. last a.0 i r f) c a.4 in
+    let a = read_at_first (new_tag_of tags) wanted.NewTag words 1 (λ tag. read_at (id_word_of tags) wanted.Id words 2 >>= λ i. range_in words 3 >>= λ r. file_option words (behind_range r 3) >>= λ f. last tag i r f) c e in
+    let b = read_at_first (id_word_of tags) wanted.Id words 2 (λ i. range_in words 3 >>= λ r. file_option words (behind_range r 3) >>= λ f. last a.0 i r f) c a.4 in
     let d = bind_ok (range_in words 3) (λ r. file_option words (behind_range r 3) >>= λ f. last a.0 b.0 r f) c b.4 in
     let f = bind_ok (file_option words (behind_range d.0 3)) (λ f. last a.0 b.0 d.0 f) c d.2 in
     let end = ended_takes words (behind_option words (behind_range d.0 3) (codes "file")) (command.Get a.0 b.0 d.0 f.0) c f.2 in
@@ -92,8 +88,8 @@ info_takes : (scope : Scope) (words : Words) (c : Command) → words ≡ codes "
 unfolding info_in
 info_takes scope words c front e =
     let tags = scope.tags in
-    let a = slot_first (new_tag_of tags) wanted.NewTag words 1 (λ tag. slot (id_word_of tags) wanted.Id words 2 >>= λ i. ended words 3 (command.Info tag i)) c e in
-    let b = slot_first (id_word_of tags) wanted.Id words 2 (λ i. ended words 3 (command.Info a.0 i)) c a.4 in
+    let a = read_at_first (new_tag_of tags) wanted.NewTag words 1 (λ tag. read_at (id_word_of tags) wanted.Id words 2 >>= λ i. ended words 3 (command.Info tag i)) c e in
+    let b = read_at_first (id_word_of tags) wanted.Id words 2 (λ i. ended words 3 (command.Info a.0 i)) c a.4 in
     let end = ended_takes words 3 (command.Info a.0 b.0) c b.4 in
     let tag = new_tag_takes tags a.1 a.0 a.3 in
     let whole = two_words words (codes "info") a.0 b.1 [] front (next_word words 1 a.1 a.0 (drop 2 words) a.2 tag.0) (last_word words 2 b.1 b.1 (drop 3 words) b.2 refl end.0) in
@@ -103,8 +99,8 @@ delete_takes : (scope : Scope) (words : Words) (c : Command) → words ≡ codes
 unfolding delete_in
 delete_takes scope words c front e =
     let tags = scope.tags in
-    let a = slot_first (new_tag_of tags) wanted.NewTag words 1 (λ tag. slot (id_word_of tags) wanted.Id words 2 >>= λ i. ended words 3 (command.Delete tag i)) c e in
-    let b = slot_first (id_word_of tags) wanted.Id words 2 (λ i. ended words 3 (command.Delete a.0 i)) c a.4 in
+    let a = read_at_first (new_tag_of tags) wanted.NewTag words 1 (λ tag. read_at (id_word_of tags) wanted.Id words 2 >>= λ i. ended words 3 (command.Delete tag i)) c e in
+    let b = read_at_first (id_word_of tags) wanted.Id words 2 (λ i. ended words 3 (command.Delete a.0 i)) c a.4 in
     let end = ended_takes words 3 (command.Delete a.0 b.0) c b.4 in
     let tag = new_tag_takes tags a.1 a.0 a.3 in
     let whole = two_words words (codes "del") a.0 b.1 [] front (next_word words 1 a.1 a.0 (drop 2 words) a.2 tag.0) (last_word words 2 b.1 b.1 (drop 3 words) b.2 refl end.0) in
@@ -114,7 +110,7 @@ cancel_takes : (scope : Scope) (words : Words) (c : Command) → words ≡ codes
 unfolding cancel_in
 cancel_takes scope words c front e =
     let tags = scope.tags in
-    let a = slot_first (used_tag_of tags) wanted.UsedTag words 1 (λ tag. ended words 2 (command.Cancel tag)) c e in
+    let a = read_at_first (used_tag_of tags) wanted.UsedTag words 1 (λ tag. ended words 2 (command.Cancel tag)) c e in
     let end = ended_takes words 2 (command.Cancel a.0) c a.4 in
     let tag = used_tag_takes tags a.1 a.0 a.3 in
     subst (λ (x : Command). SpellsByWords scope x words) end.1 (one_word words (codes "cancel") a.0 [] front (last_word words 1 a.1 a.0 (drop 2 words) a.2 tag.0 end.0), tag.1)
@@ -126,33 +122,33 @@ wait_takes scope words c front e = elim (chosen (nat_le (length words) 1) (Ok (c
       let few : length words ≤ 1 = grind (arith, nat_tests) in
       subst (λ (x : Command). SpellsByWords scope x words) (done_is (command.Wait None) c p.1) (front ∙ ap (λ (r : Words). codes "wait" ∷ r) (none_behind words 1 few))
   | inr p ↦
-      let a = slot_first (used_tag_of scope.tags) wanted.UsedTag words 1 (λ tag. ended words 2 (command.Wait (Some tag))) c p.1 in
+      let a = read_at_first (used_tag_of scope.tags) wanted.UsedTag words 1 (λ tag. ended words 2 (command.Wait (Some tag))) c p.1 in
       let end = ended_takes words 2 (command.Wait (Some a.0)) c a.4 in
       let tag = used_tag_takes scope.tags a.1 a.0 a.3 in
       subst (λ (x : Command). SpellsByWords scope x words) end.1 (one_word words (codes "wait") a.0 [] front (last_word words 1 a.1 a.0 (drop 2 words) a.2 tag.0 end.0), tag.1)
 ]
   where
     one : Result Command LineFault
-    one = slot (used_tag_of scope.tags) wanted.UsedTag words 1 >>= λ tag. ended words 2 (command.Wait (Some tag))
+    one = read_at (used_tag_of scope.tags) wanted.UsedTag words 1 >>= λ tag. ended words 2 (command.Wait (Some tag))
 
 drain_takes : (scope : Scope) (on : Bool) (words : Words) (c : Command) → words ≡ drain_word on ∷ drop 1 words → drain_in scope.shape on words ≡ Ok c → SpellsByWords scope c words
 unfolding drain_in
 drain_takes scope on words c front e =
-    let a = slot_first (node_of scope.shape) wanted.Node words 1 (λ node. ended words 2 (command.Drain node on)) c e in
+    let a = read_at_first (node_of scope.shape) wanted.Node words 1 (λ node. ended words 2 (command.Drain node on)) c e in
     let end = ended_takes words 2 (command.Drain a.0 on) c a.4 in
     subst (λ (x : Command). SpellsByWords scope x words) end.1 (a.1, one_word words (drain_word on) a.1 [] front (last_word words 1 a.1 a.1 (drop 2 words) a.2 refl end.0), node_takes scope.shape a.1 a.0 a.3)
 
 stop_takes : (scope : Scope) (words : Words) (c : Command) → words ≡ codes "stop" ∷ drop 1 words → stop_in scope.shape words ≡ Ok c → SpellsByWords scope c words
 unfolding stop_in
 stop_takes scope words c front e =
-    let a = slot_first (node_of scope.shape) wanted.Node words 1 (λ node. ended words 2 (command.Admin (order.Stop node))) c e in
+    let a = read_at_first (node_of scope.shape) wanted.Node words 1 (λ node. ended words 2 (command.Admin (order.Stop node))) c e in
     let end = ended_takes words 2 (command.Admin (order.Stop a.0)) c a.4 in
     subst (λ (x : Command). SpellsByWords scope x words) end.1 (a.1, one_word words (codes "stop") a.1 [] front (last_word words 1 a.1 a.1 (drop 2 words) a.2 refl end.0), node_takes scope.shape a.1 a.0 a.3)
 
 restart_takes : (scope : Scope) (words : Words) (c : Command) → words ≡ codes "restart" ∷ drop 1 words → restart_in scope.shape words ≡ Ok c → SpellsByWords scope c words
 unfolding restart_in
 restart_takes scope words c front e =
-    let a = slot_first (node_of scope.shape) wanted.Node words 1 (λ node. ended words 2 (command.Admin (order.Restart node))) c e in
+    let a = read_at_first (node_of scope.shape) wanted.Node words 1 (λ node. ended words 2 (command.Admin (order.Restart node))) c e in
     let end = ended_takes words 2 (command.Admin (order.Restart a.0)) c a.4 in
     subst (λ (x : Command). SpellsByWords scope x words) end.1 (a.1, one_word words (codes "restart") a.1 [] front (last_word words 1 a.1 a.1 (drop 2 words) a.2 refl end.0), node_takes scope.shape a.1 a.0 a.3)
 
@@ -161,9 +157,9 @@ unfolding pull_in
 pull_takes scope words c front e =
     let shape = scope.shape in
     let last = λ (m : ℕ) (n : ℕ) (p : ℕ). where_true (are_peers shape p m n) (fault.Word 3 wanted.Holders) (ended words 4 (command.Admin (order.Pull m n p))) in
-    let a = slot_first (node_of shape) wanted.Node words 1 (λ m. slot (node_of shape) wanted.Node words 2 >>= λ n. slot (partition_of shape) wanted.Partition words 3 >>= λ p. last m n p) c e in
-    let b = slot_first (node_of shape) wanted.Node words 2 (λ n. slot (partition_of shape) wanted.Partition words 3 >>= λ p. last a.0 n p) c a.4 in
-    let d = slot_first (partition_of shape) wanted.Partition words 3 (λ p. last a.0 b.0 p) c b.4 in
+    let a = read_at_first (node_of shape) wanted.Node words 1 (λ m. read_at (node_of shape) wanted.Node words 2 >>= λ n. read_at (partition_of shape) wanted.Partition words 3 >>= λ p. last m n p) c e in
+    let b = read_at_first (node_of shape) wanted.Node words 2 (λ n. read_at (partition_of shape) wanted.Partition words 3 >>= λ p. last a.0 n p) c a.4 in
+    let d = read_at_first (partition_of shape) wanted.Partition words 3 (λ p. last a.0 b.0 p) c b.4 in
     let w = where_ok (are_peers shape d.0 a.0 b.0) (fault.Word 3 wanted.Holders) (ended words 4 (command.Admin (order.Pull a.0 b.0 d.0))) c d.4 in
     let end = ended_takes words 4 (command.Admin (order.Pull a.0 b.0 d.0)) c w.1 in
     let whole = three_words words (codes "pull") a.1 b.1 d.1 [] front a.2 b.2 (last_word words 3 d.1 d.1 (drop 4 words) d.2 refl end.0) in
@@ -175,8 +171,8 @@ unfolding compact_in
 compact_takes scope words c front e =
     let shape = scope.shape in
     let last = λ (n : ℕ) (p : ℕ). where_true (holds shape p n) (fault.Word 2 wanted.Holders) (ended words 3 (command.Admin (order.Compact n p))) in
-    let a = slot_first (node_of shape) wanted.Node words 1 (λ n. slot (partition_of shape) wanted.Partition words 2 >>= λ p. last n p) c e in
-    let b = slot_first (partition_of shape) wanted.Partition words 2 (λ p. last a.0 p) c a.4 in
+    let a = read_at_first (node_of shape) wanted.Node words 1 (λ n. read_at (partition_of shape) wanted.Partition words 2 >>= λ p. last n p) c e in
+    let b = read_at_first (partition_of shape) wanted.Partition words 2 (λ p. last a.0 p) c a.4 in
     let w = where_ok (holds shape b.0 a.0) (fault.Word 2 wanted.Holders) (ended words 3 (command.Admin (order.Compact a.0 b.0))) c b.4 in
     let end = ended_takes words 3 (command.Admin (order.Compact a.0 b.0)) c w.1 in
     let whole = two_words words (codes "compact") a.1 b.1 [] front a.2 (last_word words 2 b.1 b.1 (drop 3 words) b.2 refl end.0) in
@@ -187,9 +183,9 @@ unfolding level_in
 level_takes scope words c front e =
     let shape = scope.shape in
     let last = λ (p : ℕ) (m : ℕ) (n : ℕ). where_true (are_peers shape p m n) (fault.Word 3 wanted.Holders) (ended words 4 (command.Admin (order.Level p m n))) in
-    let a = slot_first (partition_of shape) wanted.Partition words 1 (λ p. slot (node_of shape) wanted.Node words 2 >>= λ m. slot (node_of shape) wanted.Node words 3 >>= λ n. last p m n) c e in
-    let b = slot_first (node_of shape) wanted.Node words 2 (λ m. slot (node_of shape) wanted.Node words 3 >>= λ n. last a.0 m n) c a.4 in
-    let d = slot_first (node_of shape) wanted.Node words 3 (λ n. last a.0 b.0 n) c b.4 in
+    let a = read_at_first (partition_of shape) wanted.Partition words 1 (λ p. read_at (node_of shape) wanted.Node words 2 >>= λ m. read_at (node_of shape) wanted.Node words 3 >>= λ n. last p m n) c e in
+    let b = read_at_first (node_of shape) wanted.Node words 2 (λ m. read_at (node_of shape) wanted.Node words 3 >>= λ n. last a.0 m n) c a.4 in
+    let d = read_at_first (node_of shape) wanted.Node words 3 (λ n. last a.0 b.0 n) c b.4 in
     let w = where_ok (are_peers shape a.0 b.0 d.0) (fault.Word 3 wanted.Holders) (ended words 4 (command.Admin (order.Level a.0 b.0 d.0))) c d.4 in
     let end = ended_takes words 4 (command.Admin (order.Level a.0 b.0 d.0)) c w.1 in
     let whole = three_words words (codes "level") a.1 b.1 d.1 [] front a.2 b.2 (last_word words 3 d.1 d.1 (drop 4 words) d.2 refl end.0) in
@@ -230,13 +226,13 @@ unfolding command_in
 words_take scope words c e = elim (chosen (is_nothing words) (Ok command.Skip) named (Ok c) e) [
   | inl p ↦ subst (λ (x : Command). SpellsByWords scope x words) (done_is command.Skip c p.1) (nothing_takes words p.0)
   | inr p ↦
-      let a = slot_first name_at wanted.CommandName words 0 (λ n. command_behind scope n words) c p.1 in
+      let a = read_at_first name_at wanted.CommandName words 0 (λ n. command_behind scope n words) c p.1 in
       let front : words ≡ name_text a.0 ∷ drop 1 words = a.2 ∙ ap (λ (w : List ℕ). w ∷ drop 1 words) (name_takes a.1 a.0 a.3) in
       behind_takes scope a.0 words c front a.4
 ]
   where
     named : Result Command LineFault
-    named = slot name_at wanted.CommandName words 0 >>= λ n. command_behind scope n words
+    named = read_at name_at wanted.CommandName words 0 >>= λ n. command_behind scope n words
 
 pub line_takes : (scope : Scope) (line : List ℕ) (c : Command) → line_in scope line ≡ Ok c → Spells scope c line
 unfolding line_in

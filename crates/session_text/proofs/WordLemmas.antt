@@ -1,10 +1,9 @@
 -- What a word is read as is what it spells, and the other way round.
-use Rattle.std.proofs.Common.{◌≡◌, ◌≢◌, ◌∙◌, inl, inr, ℕ, ◌<◌, ◌≤◌, ◌&&◌, not, nat_eq, nat_le, nat_lt, Bool, true, false, cond, codes, Option, Some, None, Ok, option_map, option_and_then, List, [], ◌∷◌, length, refl, sym, ap, subst, arith, true≢false}
+use Rattle.std.proofs.Common.{◌≡◌, ◌≢◌, ◌∙◌, inl, inr, ℕ, ◌<◌, ◌≤◌, ◌&&◌, not, nat_eq, nat_le, nat_lt, Bool, true, false, cond, codes, Option, Some, None, Ok, option_and_then, List, [], ◌∷◌, length, refl, sym, ap, subst, arith, true≢false}
 use Rattle.std.specs.Str.{bytes_eq}
 use Rattle.std.proofs.lemmas.Bool.Decides.{nat_tests}
 use Rattle.hex.specs.Hex.{decode_of, encode_lower}
 use Rattle.blob_id.specs.Id.{IsId}
-use Rattle.run_words.specs.Options.{IsNumeral}
 use Rattle.run_words.specs.Pathnames.{is_pathname}
 use Rattle.run_words.specs.Reading.{number_at}
 use Rattle.run_words.proofs.NumberLemmas.{number_takes, number_again}
@@ -17,7 +16,7 @@ use Rattle.session_text.specs.declared.command.IdWord.TheVariants as id
 use Rattle.session_text.specs.Tags.{is_used_tag, is_put_tag}
 use Rattle.session_text.specs.Texts.{is_tag, is_type, ok_value, bytes_of_digits, id_of_digits}
 use Rattle.session_text.specs.Names.{name_text, name_at}
-use Rattle.session_text.specs.Places.{when, node_within, node_of, partition_within, partition_of, holds, are_peers}
+use Rattle.session_text.specs.Holders.{when, node_within, node_of, partition_within, partition_of, holds, are_peers}
 use Rattle.session_text.specs.Spelling.{IsNewTag, IsHex, SpellsId, SpellsNode, SpellsPartition, ArePeers}
 use Rattle.session_text.specs.Reading.{new_tag_of, used_tag_of, behind_dollar, id_word_by, id_word_behind, id_word_of, metadata_within, metadata_of, file_name_of, type_of}
 use Rattle.session_text.proofs.ChoiceLemmas.{some_is, chosen, kept, both, ok_is, same_text}

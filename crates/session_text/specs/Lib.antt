@@ -1,7 +1,7 @@
 pub mod Tags
 pub mod Texts
 pub mod Names
-pub mod Places
+pub mod Holders
 pub mod Commands
 pub mod Spelling
 pub mod Reading

@@ -18,7 +18,7 @@ use Rattle.session_text.specs.declared.command.Command.{Command}
 use Rattle.session_text.specs.declared.command.Command.TheVariants as command
 use Rattle.session_text.specs.Tags.{is_used_tag, is_put_tag}
 use Rattle.session_text.specs.Texts.{is_tag, is_type, joined}
-use Rattle.session_text.specs.Places.{holds}
+use Rattle.session_text.specs.Holders.{holds}
 use Rattle.session_text.specs.Outcomes.{spelled_bytes}
 use Rattle.session_text.specs.Spelling.{IsNewTag, ArePeers, drain_word}
 

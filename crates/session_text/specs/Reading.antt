@@ -20,7 +20,7 @@ use Rattle.session_text.specs.declared.command.IdWord.TheVariants as id
 use Rattle.session_text.specs.declared.command.Command.{Command}
 use Rattle.session_text.specs.declared.command.Command.TheVariants as command
 use Rattle.session_text.specs.Names.{name_at}
-use Rattle.session_text.specs.Places.{when, node_of, partition_of, holds, are_peers}
+use Rattle.session_text.specs.Holders.{when, node_of, partition_of, holds, are_peers}
 use Rattle.session_text.specs.Spelling.{longest_line}
 use Rattle.session_text.specs.Tags.{is_used_tag, is_put_tag}
 pub use Rattle.session_text.specs.Texts.{bytes_of_digits}
@@ -45,8 +45,8 @@ found_or (Some x) refusal = Ok x
 found_or None refusal = Err refusal
 
 -- What the word at a place is read as. Where there is none, or it isn't read, this had to stand there.
-abbrev pub slot : {A : Type 0} → (List ℕ → Option A) → Wanted → List (List ℕ) → ℕ → Result A LineFault
-slot of wanted words place = found_or (option_and_then of (slice_get words place)) (fault.Word place wanted)
+abbrev pub read_at : {A : Type 0} → (List ℕ → Option A) → Wanted → List (List ℕ) → ℕ → Result A LineFault
+read_at of wanted words place = found_or (option_and_then of (slice_get words place)) (fault.Word place wanted)
 
 abbrev pub is_text : Option (List ℕ) → List ℕ → Bool
 is_text (Some word) text = bytes_eq word text
@@ -101,21 +101,21 @@ type_of word = when (is_type word) word
 -- `hex` and digits, or `file` and a name
 unfoldable pub source_in : List (List ℕ) → ℕ → Result BlobSource LineFault
 source_in words place =
-    if has_word words place (codes "hex") then (slot bytes_of_digits wanted.Digits words (place + 1) >>= λ bytes. Ok (source.Line bytes))
-    else (if has_word words place (codes "file") then (slot file_name_of wanted.FileName words (place + 1) >>= λ name. Ok (source.File name))
+    if has_word words place (codes "hex") then (read_at bytes_of_digits wanted.Digits words (place + 1) >>= λ bytes. Ok (source.Line bytes))
+    else (if has_word words place (codes "file") then (read_at file_name_of wanted.FileName words (place + 1) >>= λ name. Ok (source.File name))
     else Err (fault.Word place wanted.SourceForm))
 
 -- `type` and a type, or no type
 unfoldable pub type_option : List (List ℕ) → ℕ → Result (List ℕ) LineFault
-type_option words place = if has_word words place (codes "type") then slot type_of wanted.BlobType words (place + 1) else Ok []
+type_option words place = if has_word words place (codes "type") then read_at type_of wanted.BlobType words (place + 1) else Ok []
 
 -- `meta` and metadata, or no metadata
 unfoldable pub metadata_option : List (List ℕ) → ℕ → Result (List ℕ) LineFault
-metadata_option words place = if has_word words place (codes "meta") then slot metadata_of wanted.Metadata words (place + 1) else Ok []
+metadata_option words place = if has_word words place (codes "meta") then read_at metadata_of wanted.Metadata words (place + 1) else Ok []
 
 -- `file` and a name, or no name
 unfoldable pub file_option : List (List ℕ) → ℕ → Result (Option (List ℕ)) LineFault
-file_option words place = if has_word words place (codes "file") then (slot file_name_of wanted.FileName words (place + 1) >>= λ name. Ok (Some name)) else Ok None
+file_option words place = if has_word words place (codes "file") then (read_at file_name_of wanted.FileName words (place + 1) >>= λ name. Ok (Some name)) else Ok None
 
 -- the place behind an optional word and the one that belongs to it, where the word stands at the place
 abbrev pub behind_option : List (List ℕ) → ℕ → List ℕ → ℕ
@@ -125,7 +125,7 @@ behind_option words place text = if has_word words place text then place + 2 els
 unfoldable pub range_in : List (List ℕ) → ℕ → Result (Option (ℕ × ℕ)) LineFault
 range_in words place =
     if nat_le (length words) place || has_word words place (codes "file") then Ok None
-    else (slot number_at wanted.Number words place >>= λ from. slot number_at wanted.Number words (place + 1) >>= λ len. Ok (Some (from, len)))
+    else (read_at number_at wanted.Number words place >>= λ from. read_at number_at wanted.Number words (place + 1) >>= λ len. Ok (Some (from, len)))
 
 abbrev pub behind_range : Option (ℕ × ℕ) → ℕ → ℕ
 behind_range (Some range) place = place + 2
@@ -135,7 +135,7 @@ behind_range None place = place
 
 unfoldable pub put_in : List Tag → List (List ℕ) → Result Command LineFault
 put_in tags words = do
-  tag ← slot (new_tag_of tags) wanted.NewTag words 1
+  tag ← read_at (new_tag_of tags) wanted.NewTag words 1
   source ← source_in words 2
   ctype ← type_option words 4
   meta ← metadata_option words (behind_option words 4 (codes "type"))
@@ -143,67 +143,67 @@ put_in tags words = do
 
 unfoldable pub get_in : List Tag → List (List ℕ) → Result Command LineFault
 get_in tags words = do
-  tag ← slot (new_tag_of tags) wanted.NewTag words 1
-  id ← slot (id_word_of tags) wanted.Id words 2
+  tag ← read_at (new_tag_of tags) wanted.NewTag words 1
+  id ← read_at (id_word_of tags) wanted.Id words 2
   range ← range_in words 3
   file ← file_option words (behind_range range 3)
   ended words (behind_option words (behind_range range 3) (codes "file")) (command.Get tag id range file)
 
 unfoldable pub info_in : List Tag → List (List ℕ) → Result Command LineFault
 info_in tags words = do
-  tag ← slot (new_tag_of tags) wanted.NewTag words 1
-  id ← slot (id_word_of tags) wanted.Id words 2
+  tag ← read_at (new_tag_of tags) wanted.NewTag words 1
+  id ← read_at (id_word_of tags) wanted.Id words 2
   ended words 3 (command.Info tag id)
 
 unfoldable pub delete_in : List Tag → List (List ℕ) → Result Command LineFault
 delete_in tags words = do
-  tag ← slot (new_tag_of tags) wanted.NewTag words 1
-  id ← slot (id_word_of tags) wanted.Id words 2
+  tag ← read_at (new_tag_of tags) wanted.NewTag words 1
+  id ← read_at (id_word_of tags) wanted.Id words 2
   ended words 3 (command.Delete tag id)
 
 unfoldable pub cancel_in : List Tag → List (List ℕ) → Result Command LineFault
 cancel_in tags words = do
-  tag ← slot (used_tag_of tags) wanted.UsedTag words 1
+  tag ← read_at (used_tag_of tags) wanted.UsedTag words 1
   ended words 2 (command.Cancel tag)
 
 unfoldable pub wait_in : List Tag → List (List ℕ) → Result Command LineFault
 wait_in tags words =
     if nat_le (length words) 1 then Ok (command.Wait None)
-    else (slot (used_tag_of tags) wanted.UsedTag words 1 >>= λ tag. ended words 2 (command.Wait (Some tag)))
+    else (read_at (used_tag_of tags) wanted.UsedTag words 1 >>= λ tag. ended words 2 (command.Wait (Some tag)))
 
 unfoldable pub drain_in : Shape → Bool → List (List ℕ) → Result Command LineFault
 drain_in shape on words = do
-  node ← slot (node_of shape) wanted.Node words 1
+  node ← read_at (node_of shape) wanted.Node words 1
   ended words 2 (command.Drain node on)
 
 unfoldable pub stop_in : Shape → List (List ℕ) → Result Command LineFault
 stop_in shape words = do
-  node ← slot (node_of shape) wanted.Node words 1
+  node ← read_at (node_of shape) wanted.Node words 1
   ended words 2 (command.Admin (order.Stop node))
 
 unfoldable pub restart_in : Shape → List (List ℕ) → Result Command LineFault
 restart_in shape words = do
-  node ← slot (node_of shape) wanted.Node words 1
+  node ← read_at (node_of shape) wanted.Node words 1
   ended words 2 (command.Admin (order.Restart node))
 
 unfoldable pub pull_in : Shape → List (List ℕ) → Result Command LineFault
 pull_in shape words = do
-  a ← slot (node_of shape) wanted.Node words 1
-  b ← slot (node_of shape) wanted.Node words 2
-  partition ← slot (partition_of shape) wanted.Partition words 3
+  a ← read_at (node_of shape) wanted.Node words 1
+  b ← read_at (node_of shape) wanted.Node words 2
+  partition ← read_at (partition_of shape) wanted.Partition words 3
   where_true (are_peers shape partition a b) (fault.Word 3 wanted.Holders) (ended words 4 (command.Admin (order.Pull a b partition)))
 
 unfoldable pub compact_in : Shape → List (List ℕ) → Result Command LineFault
 compact_in shape words = do
-  node ← slot (node_of shape) wanted.Node words 1
-  partition ← slot (partition_of shape) wanted.Partition words 2
+  node ← read_at (node_of shape) wanted.Node words 1
+  partition ← read_at (partition_of shape) wanted.Partition words 2
   where_true (holds shape partition node) (fault.Word 2 wanted.Holders) (ended words 3 (command.Admin (order.Compact node partition)))
 
 unfoldable pub level_in : Shape → List (List ℕ) → Result Command LineFault
 level_in shape words = do
-  partition ← slot (partition_of shape) wanted.Partition words 1
-  a ← slot (node_of shape) wanted.Node words 2
-  b ← slot (node_of shape) wanted.Node words 3
+  partition ← read_at (partition_of shape) wanted.Partition words 1
+  a ← read_at (node_of shape) wanted.Node words 2
+  b ← read_at (node_of shape) wanted.Node words 3
   where_true (are_peers shape partition a b) (fault.Word 3 wanted.Holders) (ended words 4 (command.Admin (order.Level partition a b)))
 
 unfoldable pub command_behind : Scope → Name → List (List ℕ) → Result Command LineFault
@@ -225,7 +225,7 @@ command_behind scope name.End words = ended words 1 command.End
 unfoldable pub command_in : Scope → List (List ℕ) → Result Command LineFault
 command_in scope words =
     if is_nothing words then Ok command.Skip
-    else (slot name_at wanted.CommandName words 0 >>= λ name. command_behind scope name words)
+    else (read_at name_at wanted.CommandName words 0 >>= λ name. command_behind scope name words)
 
 -- What a line is read as: its command, or why it spells none.
 unfoldable pub line_in : Scope → List ℕ → Result Command LineFault

@@ -17,7 +17,7 @@ use Rattle.session_text.specs.declared.command.Command.{Command}
 use Rattle.session_text.specs.declared.command.Command.TheVariants as command
 use Rattle.session_text.specs.Tags.{is_used_tag, is_put_tag}
 use Rattle.session_text.specs.Texts.{words_of, is_tag, is_type}
-use Rattle.session_text.specs.Places.{holds}
+use Rattle.session_text.specs.Holders.{holds}
 
 -- the bytes that a line has at most, without its end
 abbrev pub longest_line : ℕ

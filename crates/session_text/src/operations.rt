@@ -5,7 +5,7 @@ ghost use Rattle.session_text.specs.Reading.{Gives, source_in, type_option, meta
 
 use crate::command::{BlobSource, Command};
 use crate::fault::{LineFault, Wanted};
-use crate::slots::{
+use crate::placed_words::{
     digits_in, ended, file_name_in, has_word, id_in, metadata_in, new_tag_in, number_in, type_in,
 };
 use crate::tags::Tags;

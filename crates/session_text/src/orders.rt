@@ -6,7 +6,7 @@ ghost use Rattle.session_text.specs.Reading.{drain_in, stop_in, restart_in, pull
 
 use crate::command::Command;
 use crate::fault::{LineFault, Wanted};
-use crate::slots::{are_peers, ended, holds, node_in, partition_in};
+use crate::placed_words::{are_peers, ended, holds, node_in, partition_in};
 use world_model::{Order, Shape};
 
 #[tactic(auto, unfolding(crate::specs::Reading::drain_in))]

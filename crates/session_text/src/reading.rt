@@ -13,7 +13,7 @@ use crate::fault::LineFault;
 use crate::names::Name;
 use crate::operations::{read_delete, read_get, read_info, read_put};
 use crate::orders::{read_compact, read_drain, read_level, read_pull, read_restart, read_stop};
-use crate::slots::{ended, name_in, used_tag_in};
+use crate::placed_words::{ended, name_in, used_tag_in};
 use crate::tags::{Scope, Tags};
 use crate::texts::{is_comment, words_of};
 use std::alloc::Global;

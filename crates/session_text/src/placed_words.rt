@@ -1,4 +1,4 @@
-//! What stands at one place of a line. Each of these answers what the word there is, or that the word isn't what has to stand
+//! The word at a place of a line. Each of these answers what it is read as, or that it isn't what has to stand
 //! there.
 
 ghost use Rattle.std.specs.Prelude.{◌≡◌, IfOk, map};
@@ -8,8 +8,8 @@ ghost use Rattle.world_model.specs.Shape.{IsShape};
 ghost use Rattle.session_text.specs.declared.fault.Wanted.TheVariants as wanted;
 ghost use Rattle.session_text.specs.Texts.{id_of_digits};
 ghost use Rattle.session_text.specs.Names.{name_at};
-ghost use Rattle.session_text.specs.Places.{node_of, partition_of, holds, are_peers};
-ghost use Rattle.session_text.specs.Reading.{Gives, slot, has_word, new_tag_of, used_tag_of, behind_dollar, id_word_of, id_word_by, bytes_of_digits, metadata_of, file_name_of, type_of, ended};
+ghost use Rattle.session_text.specs.Holders.{node_of, partition_of, holds, are_peers};
+ghost use Rattle.session_text.specs.Reading.{Gives, read_at, has_word, new_tag_of, used_tag_of, behind_dollar, id_word_of, id_word_by, bytes_of_digits, metadata_of, file_name_of, type_of, ended};
 
 use crate::command::{Command, IdWord};
 use crate::fault::{LineFault, Wanted};
@@ -43,7 +43,7 @@ pub fn ended(words: &[&[u8]], place: usize, command: Command) -> Result<Command,
 }
 
 pub fn name_in(words: &[&[u8]], place: usize) -> Result<Name, LineFault>
-    ensures { result ≡ slot name_at wanted.CommandName (map (λ word. word.now) words.now) place }
+    ensures { result ≡ read_at name_at wanted.CommandName (map (λ word. word.now) words.now) place }
 {
     let Some(word) = word_at(words, place) else {
         return Err(LineFault::Word(place, Wanted::CommandName));
@@ -55,7 +55,7 @@ pub fn name_in(words: &[&[u8]], place: usize) -> Result<Name, LineFault>
 }
 
 pub fn number_in(words: &[&[u8]], place: usize) -> Result<u64, LineFault>
-    ensures { result ≡ slot number_at wanted.Number (map (λ word. word.now) words.now) place }
+    ensures { result ≡ read_at number_at wanted.Number (map (λ word. word.now) words.now) place }
 {
     let Some(word) = word_at(words, place) else {
         return Err(LineFault::Word(place, Wanted::Number));
@@ -67,7 +67,7 @@ pub fn number_in(words: &[&[u8]], place: usize) -> Result<u64, LineFault>
 }
 
 pub fn node_in(shape: &Shape, words: &[&[u8]], place: usize) -> Result<u32, LineFault>
-    ensures { result ≡ slot (node_of shape.now) wanted.Node (map (λ word. word.now) words.now) place }
+    ensures { result ≡ read_at (node_of shape.now) wanted.Node (map (λ word. word.now) words.now) place }
 {
     let Some(word) = word_at(words, place) else {
         return Err(LineFault::Word(place, Wanted::Node));
@@ -90,7 +90,7 @@ fn read_node(shape: &Shape, word: &[u8]) -> Option<u32>
 }
 
 pub fn partition_in(shape: &Shape, words: &[&[u8]], place: usize) -> Result<u32, LineFault>
-    ensures { result ≡ slot (partition_of shape.now) wanted.Partition (map (λ word. word.now) words.now) place }
+    ensures { result ≡ read_at (partition_of shape.now) wanted.Partition (map (λ word. word.now) words.now) place }
 {
     let Some(word) = word_at(words, place) else {
         return Err(LineFault::Word(place, Wanted::Partition));
@@ -134,7 +134,7 @@ pub fn new_tag_in(
     words: &[&[u8]],
     place: usize,
 ) -> Result<Bytes, LineFault>
-    ensures { Gives result (slot (new_tag_of tags.now) wanted.NewTag (map (λ word. word.now) words.now) place) }
+    ensures { Gives result (read_at (new_tag_of tags.now) wanted.NewTag (map (λ word. word.now) words.now) place) }
 {
     let Some(word) = word_at(words, place) else {
         return Err(LineFault::Word(place, Wanted::NewTag));
@@ -152,7 +152,7 @@ pub fn used_tag_in(
     words: &[&[u8]],
     place: usize,
 ) -> Result<Bytes, LineFault>
-    ensures { Gives result (slot (used_tag_of tags.now) wanted.UsedTag (map (λ word. word.now) words.now) place) }
+    ensures { Gives result (read_at (used_tag_of tags.now) wanted.UsedTag (map (λ word. word.now) words.now) place) }
 {
     let Some(word) = word_at(words, place) else {
         return Err(LineFault::Word(place, Wanted::UsedTag));
@@ -165,7 +165,7 @@ pub fn used_tag_in(
 }
 
 pub fn id_in(alloc: Global, tags: &Tags, words: &[&[u8]], place: usize) -> Result<IdWord, LineFault>
-    ensures { Gives result (slot (id_word_of tags.now) wanted.Id (map (λ word. word.now) words.now) place) }
+    ensures { Gives result (read_at (id_word_of tags.now) wanted.Id (map (λ word. word.now) words.now) place) }
 {
     let Some(word) = word_at(words, place) else {
         return Err(LineFault::Word(place, Wanted::Id));
@@ -209,7 +209,7 @@ fn read_id(word: &[u8]) -> Option<IdWord>
 }
 
 pub fn digits_in(alloc: Global, words: &[&[u8]], place: usize) -> Result<Bytes, LineFault>
-    ensures { Gives result (slot bytes_of_digits wanted.Digits (map (λ word. word.now) words.now) place) }
+    ensures { Gives result (read_at bytes_of_digits wanted.Digits (map (λ word. word.now) words.now) place) }
 {
     let Some(word) = word_at(words, place) else {
         return Err(LineFault::Word(place, Wanted::Digits));
@@ -221,7 +221,7 @@ pub fn digits_in(alloc: Global, words: &[&[u8]], place: usize) -> Result<Bytes, 
 }
 
 pub fn metadata_in(alloc: Global, words: &[&[u8]], place: usize) -> Result<Bytes, LineFault>
-    ensures { Gives result (slot metadata_of wanted.Metadata (map (λ word. word.now) words.now) place) }
+    ensures { Gives result (read_at metadata_of wanted.Metadata (map (λ word. word.now) words.now) place) }
 {
     let Some(word) = word_at(words, place) else {
         return Err(LineFault::Word(place, Wanted::Metadata));
@@ -233,7 +233,7 @@ pub fn metadata_in(alloc: Global, words: &[&[u8]], place: usize) -> Result<Bytes
 }
 
 pub fn file_name_in(alloc: Global, words: &[&[u8]], place: usize) -> Result<Pathname, LineFault>
-    ensures { Gives result (slot file_name_of wanted.FileName (map (λ word. word.now) words.now) place) }
+    ensures { Gives result (read_at file_name_of wanted.FileName (map (λ word. word.now) words.now) place) }
 {
     let Some(word) = word_at(words, place) else {
         return Err(LineFault::Word(place, Wanted::FileName));
@@ -246,7 +246,7 @@ pub fn file_name_in(alloc: Global, words: &[&[u8]], place: usize) -> Result<Path
 }
 
 pub fn type_in(alloc: Global, words: &[&[u8]], place: usize) -> Result<Bytes, LineFault>
-    ensures { Gives result (slot type_of wanted.BlobType (map (λ word. word.now) words.now) place) }
+    ensures { Gives result (read_at type_of wanted.BlobType (map (λ word. word.now) words.now) place) }
 {
     let Some(word) = word_at(words, place) else {
         return Err(LineFault::Word(place, Wanted::BlobType));
