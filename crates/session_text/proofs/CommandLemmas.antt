@@ -8,7 +8,6 @@ use Rattle.std.proofs.lemmas.Fmt.{decimal_is_IsNumeral, length-decimal-le}
 use Rattle.hex.specs.Hex.{IsBytes, encode_lower}
 use Rattle.hex.proofs.HexLemmas.{decode_of-encode_lower, decode_of-ok}
 use Rattle.blob_id.specs.Blob.{is_type_byte}
-use Rattle.run_words.specs.Options.{is_digit, IsNumeral}
 use Rattle.run_words.specs.Pathnames.{is_path_byte, is_pathname}
 use Rattle.world_model.specs.Shape.{IsShape}
 use Rattle.world_model.specs.declared.order.Order.{Order}
@@ -23,7 +22,7 @@ use Rattle.session_text.specs.declared.command.IdWord.TheVariants as id
 use Rattle.session_text.specs.declared.command.Command.{Command}
 use Rattle.session_text.specs.declared.command.Command.TheVariants as command
 use Rattle.session_text.specs.Tags.{tag_number, is_number, is_used_tag, is_put_number, is_put_tag}
-use Rattle.session_text.specs.Texts.{is_letter, is_tag_byte, is_tag, is_type, words_of}
+use Rattle.session_text.specs.Texts.{is_digit, IsNumeral, is_letter, is_tag_byte, is_tag, is_type, words_of}
 use Rattle.session_text.specs.Outcomes.{spelled_bytes}
 use Rattle.session_text.specs.Spelling.{longest_line, IsHex, SpellsId, SpellsSource, SpellsType, SpellsMetadata, SpellsRange, SpellsFile, SpellsNode, SpellsPartition, drain_word, SpellsOrder, SpellsByWords, Spells}
 use Rattle.session_text.specs.Lines.{AreTags, source_part, type_part, metadata_part, range_part, file_part, id_text, order_part, command_words, command_line, IsSource, IsTypeOrNone, IsNamed, IsRange, IsFileOrNone, IsNode, IsOrder, IsCommand}

@@ -2,15 +2,13 @@
 use Rattle.std.proofs.Common.{◌≡◌, ◌∙◌, inl, inr, ℕ, ◌+◌, ◌≤◌, ◌||◌, nat_le, Bool, true, false, cond, codes, Option, Some, None, Result, Ok, Err, List, [], ◌∷◌, ◌++◌, length, drop, refl, sym, ap, ap₂, subst, arith, true≢false}
 use Rattle.std.specs.Str.{bytes_eq}
 use Rattle.std.proofs.lemmas.Bool.Decides.{nat_tests}
-use Rattle.run_words.specs.Options.{is_numeral, IsNumeral}
-use Rattle.run_words.specs.Reading.{number_at}
 use Rattle.run_words.proofs.NumberLemmas.{number_takes, number_again}
 use Rattle.session_text.specs.declared.fault.LineFault.{LineFault}
 use Rattle.session_text.specs.declared.fault.LineFault.TheVariants as fault
 use Rattle.session_text.specs.declared.fault.Wanted.TheVariants as wanted
 use Rattle.session_text.specs.declared.command.BlobSource.{BlobSource}
 use Rattle.session_text.specs.declared.command.BlobSource.TheVariants as source
-use Rattle.session_text.specs.Texts.{is_type, bytes_of_digits}
+use Rattle.session_text.specs.Texts.{is_numeral, IsNumeral, number_at, is_type, bytes_of_digits}
 use Rattle.session_text.specs.Spelling.{SpellsSource, SpellsType, SpellsMetadata, SpellsRange, SpellsFile}
 use Rattle.session_text.specs.Reading.{◌>>=◌, read_at, has_word, behind_option, metadata_of, file_name_of, type_of, source_in, type_option, metadata_option, file_option, range_in, behind_range}
 use Rattle.session_text.proofs.ChoiceLemmas.{chosen, same_text}

@@ -5,7 +5,6 @@ use Rattle.std.proofs.lemmas.Bool.Decides.{nat_tests}
 use Rattle.hex.specs.Hex.{decode_of, encode_lower}
 use Rattle.blob_id.specs.Id.{IsId}
 use Rattle.run_words.specs.Pathnames.{is_pathname}
-use Rattle.run_words.specs.Reading.{number_at}
 use Rattle.run_words.proofs.NumberLemmas.{number_takes, number_again}
 use Rattle.world_model.specs.declared.shape.Shape.{Shape}
 use Rattle.session_text.specs.declared.tags.Tag.{Tag}
@@ -14,7 +13,7 @@ use Rattle.session_text.specs.declared.names.Name.TheVariants as name
 use Rattle.session_text.specs.declared.command.IdWord.{IdWord}
 use Rattle.session_text.specs.declared.command.IdWord.TheVariants as id
 use Rattle.session_text.specs.Tags.{is_used_tag, is_put_tag}
-use Rattle.session_text.specs.Texts.{is_tag, is_type, ok_value, bytes_of_digits, id_of_digits}
+use Rattle.session_text.specs.Texts.{number_at, is_tag, is_type, ok_value, bytes_of_digits, id_of_digits}
 use Rattle.session_text.specs.Names.{name_text, name_at}
 use Rattle.session_text.specs.Holders.{when, node_within, node_of, partition_within, partition_of, holds, are_peers}
 use Rattle.session_text.specs.Spelling.{IsNewTag, IsHex, SpellsId, SpellsNode, SpellsPartition, ArePeers}

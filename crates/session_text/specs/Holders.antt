@@ -1,7 +1,7 @@
 -- Nodes and partitions, as words name them, and which node holds which partition.
 use Rattle.std.specs.Prelude.{ℕ, List, Bool, not, ◌&&◌, ◌==◌, nat_le, nat_lt, Option, None, Some, option_and_then, if◌then◌else◌}
 use Rattle.std.specs.List.{list_any, range_with_len}
-use Rattle.run_words.specs.Reading.{number_at}
+use Rattle.session_text.specs.Texts.{number_at}
 use Rattle.world_model.specs.declared.shape.Shape.{Shape}
 use Rattle.world_model.specs.Shape as world
 

@@ -2,7 +2,6 @@
 use Rattle.std.specs.Prelude.{◌≡◌, ◌≢◌, ℕ, ◌+◌, List, [], ◌∷◌, length, Bool, true, false, not, ◌&&◌, ◌||◌, ◌==◌, nat_le, nat_lt, Option, None, Some, option_map, option_and_then, Result, Ok, Err, slice_get, codes, if◌then◌else◌}
 use Rattle.std.specs.Str.{bytes_eq}
 use Rattle.run_words.specs.Pathnames.{is_pathname}
-use Rattle.run_words.specs.Reading.{number_at}
 use Rattle.world_model.specs.declared.order.Order.TheVariants as order
 use Rattle.world_model.specs.declared.shape.Shape.{Shape}
 use Rattle.session_text.specs.declared.tags.Tag.{Tag}
@@ -24,7 +23,7 @@ use Rattle.session_text.specs.Holders.{when, node_of, partition_of, holds, are_p
 use Rattle.session_text.specs.Spelling.{longest_line}
 use Rattle.session_text.specs.Tags.{is_used_tag, is_put_tag}
 pub use Rattle.session_text.specs.Texts.{bytes_of_digits}
-use Rattle.session_text.specs.Texts.{words_of, is_nothing, is_tag, is_type, id_of_digits}
+use Rattle.session_text.specs.Texts.{number_at, words_of, is_nothing, is_tag, is_type, id_of_digits}
 
 infixl 10 ◌>>=◌
 abbrev pub ◌>>=◌ : {A B : Type 0} → Result A LineFault → (A → Result B LineFault) → Result B LineFault

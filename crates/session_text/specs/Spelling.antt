@@ -2,7 +2,6 @@
 use Rattle.std.specs.Prelude.{◌≡◌, ◌≢◌, ◌⊎◌, ℕ, ◌<◌, ◌≤◌, List, [], ◌∷◌, ◌++◌, length, Bool, true, false, Option, None, Some, Ok, codes}
 use Rattle.hex.specs.Hex.{decode_of, encode_lower}
 use Rattle.blob_id.specs.Id.{IsId}
-use Rattle.run_words.specs.Options.{IsNumeral}
 use Rattle.run_words.specs.Pathnames.{is_pathname}
 use Rattle.world_model.specs.declared.order.Order.{Order}
 use Rattle.world_model.specs.declared.order.Order.TheVariants as order
@@ -16,7 +15,7 @@ use Rattle.session_text.specs.declared.command.IdWord.TheVariants as id
 use Rattle.session_text.specs.declared.command.Command.{Command}
 use Rattle.session_text.specs.declared.command.Command.TheVariants as command
 use Rattle.session_text.specs.Tags.{is_used_tag, is_put_tag}
-use Rattle.session_text.specs.Texts.{words_of, is_tag, is_type}
+use Rattle.session_text.specs.Texts.{IsNumeral, words_of, is_tag, is_type}
 use Rattle.session_text.specs.Holders.{holds}
 
 -- the bytes that a line has at most, without its end

@@ -5,6 +5,8 @@ use Rattle.std.specs.Str.{bytes_eq}
 use Rattle.hex.specs.Hex.{decode_of, encode_lower}
 use Rattle.blob_id.specs.Blob.{is_type_byte}
 use Rattle.blob_id.specs.Id.{id_fault}
+pub use Rattle.run_words.specs.Options.{is_digit, is_numeral, IsNumeral}
+pub use Rattle.run_words.specs.Reading.{number_at}
 
 -- spaces and tabs divide the words
 abbrev pub is_blank : ℕ → Bool

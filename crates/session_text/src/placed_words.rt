@@ -3,10 +3,9 @@
 
 ghost use Rattle.std.specs.Prelude.{◌≡◌, IfOk, map};
 ghost use Rattle.std.specs.Option.{option_copied};
-ghost use Rattle.run_words.specs.Reading.{number_at};
 ghost use Rattle.world_model.specs.Shape.{IsShape};
 ghost use Rattle.session_text.specs.declared.fault.Wanted.TheVariants as wanted;
-ghost use Rattle.session_text.specs.Texts.{id_of_digits};
+ghost use Rattle.session_text.specs.Texts.{number_at, id_of_digits};
 ghost use Rattle.session_text.specs.Names.{name_at};
 ghost use Rattle.session_text.specs.Holders.{node_of, partition_of, holds, are_peers};
 ghost use Rattle.session_text.specs.Reading.{Gives, read_at, has_word, new_tag_of, used_tag_of, behind_dollar, id_word_of, id_word_by, bytes_of_digits, metadata_of, file_name_of, type_of, ended};
