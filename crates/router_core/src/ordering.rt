@@ -1,12 +1,14 @@
 //! Orders to the network.
 
 ghost use Rattle.std.specs.Prelude.{◌≡◌, ℕ, ◌≤◌, List, ◌∷◌, Some, IfOk, OnOk, IsErrOf};
+ghost use Rattle.std.specs.Result.{is_ok};
 ghost use Rattle.outside.specs.Causes.{Rose};
 ghost use Rattle.world_model.specs.declared.fabric.SendFault.{SendFault};
 ghost use Rattle.world_model.specs.declared.history.HistoryMark.{HistoryMark};
 ghost use Rattle.world_model.specs.declared.history.HistoryMark.TheVariants.{Ordered};
 ghost use Rattle.world_model.specs.declared.shape.Shape.{Shape};
-ghost use Rattle.world_model.specs.Fabric.{Awaits, KeepsRun, TakesOrder};
+ghost use Rattle.world_model.specs.Advancing.{Advances};
+ghost use Rattle.world_model.specs.Fabric.{Awaits, TakesOrder};
 ghost use Rattle.router_core.specs.Stands.{Stands, is_idle};
 ghost use Rattle.router_core.specs.Ties.{Ties};
 
@@ -34,11 +36,7 @@ impl Router {
         ensures idle { (IsErrOf result SendFault.Memory → ⊥) → is_idle self.new.stage ≡ is_idle self.old.stage }
         ensures begun { self.new.begun ≡ self.old.begun }
         ensures shape { self.new.shape ≡ self.old.shape }
-        ensures opened { F.opened fabric.new ≡ F.opened fabric.old }
-        ensures later { F.faults fabric.old ≤ F.faults fabric.new }
-        ensures run { (cluster : Shape) (place : List ℕ) → KeepsRun (F.runs fabric.old cluster place) (F.runs fabric.new cluster place) }
-        ensures goes { (IsErrOf result SendFault.Memory → ⊥) → F.goes fabric.old fabric.new }
-        ensures falls { F.falls fabric.old fabric.new }
+        ensures net { Advances F.faults F.opened F.runs F.advances fabric.old fabric.new (is_ok result) }
     {
         let told = fabric.admin(order)?;
         match self.take_queued(alloc, fabric) {
@@ -55,11 +53,7 @@ impl Router {
         ensures idle { OnOk result (is_idle self.new.stage ≡ is_idle self.old.stage) }
         ensures begun { self.new.begun ≡ self.old.begun }
         ensures shape { self.new.shape ≡ self.old.shape }
-        ensures opened { F.opened fabric.new ≡ F.opened fabric.old }
-        ensures later { F.faults fabric.old ≤ F.faults fabric.new }
-        ensures run { (cluster : Shape) (place : List ℕ) → KeepsRun (F.runs fabric.old cluster place) (F.runs fabric.new cluster place) }
-        ensures goes { OnOk result (F.goes fabric.old fabric.new) }
-        ensures falls { F.falls fabric.old fabric.new }
+        ensures net { Advances F.faults F.opened F.runs F.advances fabric.old fabric.new (is_ok result) }
     {
         'taking: while fabric.queued() > 0 {
             self.turn(alloc, fabric)?;
