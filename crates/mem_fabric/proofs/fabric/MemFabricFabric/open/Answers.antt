@@ -72,7 +72,7 @@ returns-in-Err-Memory-clause-packing g c =
 
 pub returns-in-Err-Failed-clause-net : goal.returns-in-Err-Failed-clause-net
 returns-in-Err-Failed-clause-net g c = record {
-  played = plays_none (g.M.Moves.given c.args.self.now.moves) (g.M.Moves.given c.args.self.now.moves) c.args.self.now.cluster c.args.self.now.cluster refl refl;
+  played = plays_none (g.M.Moves.given c.args.self.now.moves) (g.M.Moves.given c.args.self.now.moves) c.args.self.now.cluster c.args.self.now.cluster _ refl refl;
   same = g.met.M.Moves.same_self c.args.self.now.moves;
   begun = refl;
   bays = record { same_bays = c.open.ensures.same; own = c.open.ensures.out };
@@ -81,7 +81,7 @@ returns-in-Err-Failed-clause-net g c = record {
 
 pub returns-in-Err-Refused-clause-net : goal.returns-in-Err-Refused-clause-net
 returns-in-Err-Refused-clause-net g c = record {
-  played = plays_none (g.M.Moves.given c.args.self.now.moves) (g.M.Moves.given c.args.self.now.moves) c.args.self.now.cluster c.args.self.now.cluster refl refl;
+  played = plays_none (g.M.Moves.given c.args.self.now.moves) (g.M.Moves.given c.args.self.now.moves) c.args.self.now.cluster c.args.self.now.cluster _ refl refl;
   same = g.met.M.Moves.same_self c.args.self.now.moves;
   begun = refl;
   bays = record { same_bays = c.open.ensures.same; own = c.open.ensures.out };
@@ -90,7 +90,7 @@ returns-in-Err-Refused-clause-net g c = record {
 
 pub returns-in-Err-Memory-clause-net : goal.returns-in-Err-Memory-clause-net
 returns-in-Err-Memory-clause-net g c = record {
-  played = plays_none (g.M.Moves.given c.args.self.now.moves) (g.M.Moves.given c.args.self.now.moves) c.args.self.now.cluster c.args.self.now.cluster refl refl;
+  played = plays_none (g.M.Moves.given c.args.self.now.moves) (g.M.Moves.given c.args.self.now.moves) c.args.self.now.cluster c.args.self.now.cluster _ refl refl;
   same = g.met.M.Moves.same_self c.args.self.now.moves;
   begun = refl;
   bays = record { same_bays = c.open.ensures.same; own = c.open.ensures.out };
