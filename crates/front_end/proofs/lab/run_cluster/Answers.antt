@@ -25,12 +25,11 @@ returns-clause-run g c =
     let folder = c.args.folder.now in
     let disks = disks_of B.tells D.tells D.content D.size D.faults B.home shape folder old.nodes.bays end.nodes.bays in
     let packs = packs_on B.tells D.tells D.content D.size D.faults B.home shape folder old.nodes opened.nodes end.nodes (calls_of old.cluster.past) (calls_of opened.cluster.past) (calls_of end.cluster.past) c.requires.nodes c.requires.told c.open.ensures.packing c.in-Ok.ensures.standing in
-    let whole_way = λ own. over_on B.tells D.tells D.content B.home B.out B.same M.given M.seeds M.same opened.moves opened.cluster opened.nodes left.moves left.cluster left.nodes end.moves end.cluster end.nodes true true (g.met.N.Moves.same_on _ _ _) (g.met.A.Bays.same_on _ _ _) own c.close.ensures.net in
     elim c.match-run_script.branch [
       | in-Ok-run_script w ↦
           let on = w.in-Ok-run_script.ensures.finished in
           let went = w.in-Ok-run_script.ensures.net in
-          let whole = whole_way went.own in
+          let whole = over_on B.tells D.tells D.content B.home B.out B.same M.given M.seeds M.same opened.moves opened.cluster opened.nodes left.moves left.cluster left.nodes end.moves end.cluster end.nodes true true (g.met.N.Moves.same_on _ _ _) (g.met.A.Bays.same_on _ _ _) went.own c.close.ensures.net in
           let p = c.what_is_told_was_played.ensures old opened end shape (calls_of left.cluster.past) c.requires.fresh c.in-Ok.ensures.net c.in-Ok.ensures.opened whole c.close.ensures.told in
           ran_finished shape disks on.router _ _ (calls_of left.cluster.past) _ _ _ c.runs_are_safe.ensures on.shaped (p.0, p.1, p.2)
           (runs_on B.tells D.tells D.content D.size D.faults B.home shape folder old.nodes.bays left.nodes (calls_of left.cluster.past) (λ opening held. went.run shape folder opening (c.in-Ok.ensures.run opening (c.requires.holds opening held))))
@@ -39,8 +38,8 @@ returns-clause-run g c =
           w.status-is on.so
       | in-Err-Source w ↦
           let on = w.in-Err-Source.ensures.stopped (ap Err w.in-Err-Source.field-0-is) in
-          let went = w.in-Err-Source.ensures.net in
-          let whole = whole_way went.own in
+          let went = rw w.in-Err-Source.field-0-is at w.in-Err-Source.ensures.net in
+          let whole = over_on B.tells D.tells D.content B.home B.out B.same M.given M.seeds M.same opened.moves opened.cluster opened.nodes left.moves left.cluster left.nodes end.moves end.cluster end.nodes true true (g.met.N.Moves.same_on _ _ _) (g.met.A.Bays.same_on _ _ _) went.own c.close.ensures.net in
           let p = c.what_is_told_was_played.ensures old opened end shape (calls_of left.cluster.past) c.requires.fresh c.in-Ok.ensures.net c.in-Ok.ensures.opened whole c.close.ensures.told in
           ran_stopped shape disks on.router _ _ (calls_of left.cluster.past) _ _ c.runs_are_safe.ensures on.shaped (p.0, p.1, p.2)
           (runs_on B.tells D.tells D.content D.size D.faults B.home shape folder old.nodes.bays left.nodes (calls_of left.cluster.past) (λ opening held. went.run shape folder opening (c.in-Ok.ensures.run opening (c.requires.holds opening held))))
@@ -49,8 +48,8 @@ returns-clause-run g c =
           w.status-is on.so
       | in-Err-Sink w ↦
           let on = w.in-Err-Sink.ensures.cut (ap Err w.in-Err-Sink.field-0-is) in
-          let went = w.in-Err-Sink.ensures.net in
-          let whole = whole_way went.own in
+          let went = rw w.in-Err-Sink.field-0-is at w.in-Err-Sink.ensures.net in
+          let whole = over_on B.tells D.tells D.content B.home B.out B.same M.given M.seeds M.same opened.moves opened.cluster opened.nodes left.moves left.cluster left.nodes end.moves end.cluster end.nodes true true (g.met.N.Moves.same_on _ _ _) (g.met.A.Bays.same_on _ _ _) went.own c.close.ensures.net in
           let p = c.what_is_told_was_played.ensures old opened end shape (calls_of left.cluster.past) c.requires.fresh c.in-Ok.ensures.net c.in-Ok.ensures.opened whole c.close.ensures.told in
           ran_cut shape disks on.router _ _ (calls_of left.cluster.past) _ _ c.runs_are_safe.ensures on.shaped (p.0, p.1, p.2)
           (runs_on B.tells D.tells D.content D.size D.faults B.home shape folder old.nodes.bays left.nodes (calls_of left.cluster.past) (λ opening held. went.run shape folder opening (c.in-Ok.ensures.run opening (c.requires.holds opening held))))

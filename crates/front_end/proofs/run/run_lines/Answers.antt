@@ -21,7 +21,7 @@ returns-in_err-line-clause-refused g c = λ q.
     let P = c.args.session.now.router.shape in
     let gone = c.next_line.ensures.gone in
     let tie = ties_of c.lines.session.router (g.F.Fabric.told c.lines.fabric) in
-    (g.U.Random.ahead c.lines.random, record { between = c.lines.fabric; went = i.net; was = record { router = c.lines.session.router; shaped = i.shape; so = stopped_between P _ _ _ _ _ _ _ gone.0 _ c.lines.session tie _ _ _ refl refl refl refl refl i.running gone.1 gone.2 (appends_nothing _) }; fell = g.met.F.Fabric.net_stays c.lines.fabric false })
+    (g.U.Random.ahead c.lines.random, record { between = c.lines.fabric; went = i.net; was = record { router = c.lines.session.router; shaped = i.shape; so = stopped_between P _ _ _ _ _ _ _ gone.0 _ c.lines.session tie _ _ _ refl refl refl refl refl i.running gone.1 gone.2 (appends_nothing _) }; fell = g.met.F.Fabric.net_stays c.lines.fabric _ })
 
 pub returns-in_err-more-in-Line-clause-cut : goal.returns-in_err-more-in-Line-clause-cut
 returns-in_err-more-in-Line-clause-cut g c = λ q.
