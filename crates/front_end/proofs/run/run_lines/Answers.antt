@@ -21,7 +21,7 @@ returns-in_err-line-clause-refused g c = λ q.
     let P = c.args.session.now.router.shape in
     let gone = c.next_line.ensures.gone in
     let tie = ties_of c.lines.session.router (g.F.Fabric.told c.lines.fabric) in
-    (g.U.Random.ahead c.lines.random, record { between = c.lines.fabric; went = i.net; was = record { router = c.lines.session.router; shaped = i.shape; so = stopped_between P _ _ _ _ _ _ _ gone.0 _ c.lines.session tie _ _ _ refl refl refl refl refl i.running gone.1 gone.2 (appends_nothing _) }; fell = g.met.F.Fabric.net_stays c.lines.fabric _ })
+    (g.U.Random.ahead c.lines.random, record { between = c.lines.fabric; went = i.net; was = record { router = c.lines.session.router; shaped = i.shape; so = stopped_between P _ _ _ _ _ _ _ gone.0 _ c.lines.session tie _ _ _ refl refl refl refl refl i.running gone.1 gone.2 (appends_nothing _) }; fell = g.met.F.Fabric.net_nowhere c.lines.fabric _ })
 
 pub returns-in_err-more-in-Line-clause-cut : goal.returns-in_err-more-in-Line-clause-cut
 returns-in_err-more-in-Line-clause-cut g c = λ q.
@@ -113,7 +113,7 @@ lines-preserved g c =
       running = runs_on P _ _ _ _ _ _ _ c.next_line.new.self.waiting _ _ c.as_slice.result.now c.lines.session c.run_line.new.session tie tie' _ _ _ i.running
           (next.0, next.1, c.as_slice.ensures ∙ next.2, next.3) l.read runs e.lines more;
       shape = e.shape ∙ i.shape;
-      net = g.met.F.Fabric.net_goes_on c.args.fabric.now c.lines.fabric c.run_line.new.fabric _ i.net e.net;
+      net = g.met.F.Fabric.net_and_then c.args.fabric.now c.lines.fabric c.run_line.new.fabric _ i.net e.net;
       turns = omega (arith, i.turns, used, e.lines);
       limit = small;
       tags = e.tags;

@@ -17,7 +17,7 @@ loop-sending-preserved g c =
       ties = λ outcome clock events begun marks t.
           e.ties outcome clock events begun marks (drop (at + 1) c.args.batch.now)
           (subst (λ (l : List Sending). Ties (At (λ r. GivesAllUp c.args.shape.now r c.loop-sending.self outcome l) clock events begun) (g.F.Fabric.told c.loop-sending.fabric) marks) left (i.ties outcome clock events begun marks t));
-      net = g.met.F.Fabric.net_goes_on _ _ _ _ i.net e.net;
+      net = g.met.F.Fabric.net_and_then c.args.fabric.now c.loop-sending.fabric c.give_up.new.fabric _ i.net e.net;
     }
 
 pub returns-clause-ties : goal.returns-clause-ties

@@ -17,7 +17,7 @@ loop-sending-preserved g c =
       ties = λ begun marks t.
           e.ties begun marks (drop (at + 1) c.args.batch.now)
           (subst (λ (l : List Sending). Ties (At (λ r. OwnsLive c.args.shape.now r c.loop-sending.self l) c.args.clock c.args.events begun) (g.F.Fabric.told c.loop-sending.fabric) marks) left (i.ties begun marks t));
-      net = g.met.F.Fabric.net_goes_on _ _ _ _ i.net e.net;
+      net = g.met.F.Fabric.net_and_then c.args.fabric.now c.loop-sending.fabric c.send_one.new.fabric _ i.net e.net;
     }
 
 pub returns-clause-ties : goal.returns-clause-ties

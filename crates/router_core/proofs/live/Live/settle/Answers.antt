@@ -33,5 +33,5 @@ settling-preserved g c =
       ties = λ begun marks t.
           subst (λ (more : Bool). Ties (At (λ r. after_asking shape r c.ask.new.self more) c.args.clock c.args.events begun) (g.F.Fabric.told c.ask.new.fabric) marks) c.if-not-more.false
           (e.ties begun marks (ties_pending shape c.args.clock c.args.events begun c.settling.self c.poll.new.self (g.F.Fabric.told c.settling.fabric) marks pending (i.ties begun marks t)));
-      net = g.met.F.Fabric.net_goes_on _ _ _ _ i.net e.net;
+      net = g.met.F.Fabric.net_and_then c.args.fabric.now c.settling.fabric c.ask.new.fabric _ i.net e.net;
     }
