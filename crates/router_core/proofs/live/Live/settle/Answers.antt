@@ -1,4 +1,4 @@
-use Rattle.std.proofs.Common.{[], ◌∷◌, Bool, Option, IfSome, IsNone, refl, ◌∙◌, subst, arith}
+use Rattle.std.proofs.Common.{[], ◌∷◌, Bool, Option, IfSome, IsNone, refl, ◌∙◌, subst}
 use Rattle.quorum_op.specs.declared.outcome.Outcome.{Outcome}
 use Rattle.world_model.specs.Record.{Decided, Record}
 use Rattle.router_core.specs.Stands.{At, IsPending, IsSettled, OwnsLive, after_asking}
