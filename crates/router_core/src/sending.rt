@@ -1,6 +1,6 @@
 //! Sending requests.
 
-ghost use Rattle.std.specs.Prelude.{◌≡◌, ℕ, ◌+◌, ◌*◌, ◌^◌, ◌<◌, ◌≤◌, Bool, true, false, List, [], ◌∷◌, Some, IfOk, IfSome, IsNone, OnOk};
+ghost use Rattle.std.specs.Prelude.{◌≡◌, ℕ, ◌+◌, ◌*◌, ◌^◌, ◌<◌, Bool, true, false, List, [], ◌∷◌, Some, IfOk, IfSome, IsNone, OnOk};
 ghost use Rattle.std.specs.Result.{is_ok};
 ghost use Rattle.operation.specs.Calls;
 ghost use Rattle.operation.specs.Calls.{Call};
