@@ -1,6 +1,7 @@
 //! Sending requests.
 
-ghost use Rattle.std.specs.Prelude.{◌≡◌, ℕ, ◌+◌, ◌*◌, ◌^◌, ◌<◌, ◌≤◌, Bool, true, false, List, [], ◌∷◌, Some, IfOk, IfSome, IsNone, OnOk};
+ghost use Rattle.std.specs.Prelude.{◌≡◌, ℕ, ◌+◌, ◌*◌, ◌^◌, ◌<◌, Bool, true, false, List, [], ◌∷◌, Some, IfOk, IfSome, IsNone, OnOk};
+ghost use Rattle.std.specs.Result.{is_ok};
 ghost use Rattle.operation.specs.Calls;
 ghost use Rattle.operation.specs.Calls.{Call};
 ghost use Rattle.operation.specs.Pieces;
@@ -14,7 +15,8 @@ ghost use Rattle.router_core.specs.Ties.{Ties};
 ghost use Rattle.router_core.specs.Requests.{entry_for};
 ghost use Rattle.world_model.specs.declared.history.HistoryMark.{HistoryMark};
 ghost use Rattle.world_model.specs.declared.shape.Shape.{Shape};
-ghost use Rattle.world_model.specs.Fabric.{HasNode, KeepsRun};
+ghost use Rattle.world_model.specs.Advancing.{Advances};
+ghost use Rattle.world_model.specs.Fabric.{HasNode};
 ghost use Rattle.world_model.specs.Record.{Record};
 ghost use Rattle.world_model.specs.Shape.{IsShape};
 
@@ -42,11 +44,7 @@ fn post<F: Fabric>(
     requires node { HasNode (F.opened fabric.old) node }
     ensures does { (shape : Shape) (moment : ℕ) (job : Job) (calls : List Call) → DoesJob shape moment job op.old calls → DoesJob shape moment job op.new calls }
     ensures posted { IfOk result (λ went. Posted op.old sending.now correlation node (F.told fabric.old) (F.told fabric.new) went) }
-    ensures opened { F.opened fabric.new ≡ F.opened fabric.old }
-    ensures later { F.faults fabric.old ≤ F.faults fabric.new }
-    ensures run { (cluster : Shape) (place : List ℕ) → KeepsRun (F.runs fabric.old cluster place) (F.runs fabric.new cluster place) }
-    ensures goes { OnOk result (F.goes fabric.old fabric.new) }
-    ensures falls { F.falls fabric.old fabric.new }
+    ensures net { Advances F.faults F.opened F.runs F.advances fabric.old fabric.new (is_ok result) }
 {
     let bytes = op.spell(alloc, sending, correlation)?;
     match fabric.send(node, bytes.as_slice()) {
@@ -118,11 +116,7 @@ impl Live {
         ensures ties { OnOk result ((begun : ℕ) (marks : List HistoryMark) (rest : List Sending) → Ties (At (λ r. OwnsLive shape.now r self.old (sending.now ∷ rest)) clock events begun) (F.told fabric.old) marks → Ties (At (λ r. OwnsLive shape.now r self.new rest) clock events begun) (F.told fabric.new) marks) }
         ensures fits { FitsLive shape.now self.new }
         ensures operation { self.new.operation ≡ self.old.operation }
-        ensures opened { F.opened fabric.new ≡ F.opened fabric.old }
-        ensures later { F.faults fabric.old ≤ F.faults fabric.new }
-        ensures run { (cluster : Shape) (place : List ℕ) → KeepsRun (F.runs fabric.old cluster place) (F.runs fabric.new cluster place) }
-        ensures goes { OnOk result (F.goes fabric.old fabric.new) }
-        ensures falls { F.falls fabric.old fabric.new }
+        ensures net { Advances F.faults F.opened F.runs F.advances fabric.old fabric.new (is_ok result) }
     {
         let waiting = self.entry(shape, clock, events, sending);
         let went = post(
@@ -167,11 +161,7 @@ impl Live {
         ensures ties { OnOk result ((begun : ℕ) (marks : List HistoryMark) → Ties (At (λ r. OwnsLive shape.now r self.old batch.now) clock events begun) (F.told fabric.old) marks → Ties (At (λ r. OwnsLive shape.now r self.new []) clock events begun) (F.told fabric.new) marks) }
         ensures fits { FitsLive shape.now self.new }
         ensures operation { self.new.operation ≡ self.old.operation }
-        ensures opened { F.opened fabric.new ≡ F.opened fabric.old }
-        ensures later { F.faults fabric.old ≤ F.faults fabric.new }
-        ensures run { (cluster : Shape) (place : List ℕ) → KeepsRun (F.runs fabric.old cluster place) (F.runs fabric.new cluster place) }
-        ensures goes { OnOk result (F.goes fabric.old fabric.new) }
-        ensures falls { F.falls fabric.old fabric.new }
+        ensures net { Advances F.faults F.opened F.runs F.advances fabric.old fabric.new (is_ok result) }
     {
         for sending in batch {
             self.send_one(alloc, shape, clock, events, sending, fabric)?;
@@ -194,11 +184,7 @@ impl Live {
         ensures ties { IfOk result (λ more. (begun : ℕ) (marks : List HistoryMark) → Ties (At (λ r. IsPending shape.now r self.old) clock events begun) (F.told fabric.old) marks → Ties (At (λ r. after_asking shape.now r self.new more) clock events begun) (F.told fabric.new) marks) }
         ensures fits { FitsLive shape.now self.new }
         ensures operation { self.new.operation ≡ self.old.operation }
-        ensures opened { F.opened fabric.new ≡ F.opened fabric.old }
-        ensures later { F.faults fabric.old ≤ F.faults fabric.new }
-        ensures run { (cluster : Shape) (place : List ℕ) → KeepsRun (F.runs fabric.old cluster place) (F.runs fabric.new cluster place) }
-        ensures goes { OnOk result (F.goes fabric.old fabric.new) }
-        ensures falls { F.falls fabric.old fabric.new }
+        ensures net { Advances F.faults F.opened F.runs F.advances fabric.old fabric.new (is_ok result) }
     {
         let mut batch = Vec::new(alloc);
         self.op.sends(alloc, &ORDER, &mut batch)?;
@@ -226,11 +212,7 @@ impl Live {
         ensures answer { IfOk result (λ over. IfSome over (IsAnswer shape.now)) }
         ensures fits { FitsLive shape.now self.new }
         ensures operation { self.new.operation ≡ self.old.operation }
-        ensures opened { F.opened fabric.new ≡ F.opened fabric.old }
-        ensures later { F.faults fabric.old ≤ F.faults fabric.new }
-        ensures run { (cluster : Shape) (place : List ℕ) → KeepsRun (F.runs fabric.old cluster place) (F.runs fabric.new cluster place) }
-        ensures goes { OnOk result (F.goes fabric.old fabric.new) }
-        ensures falls { F.falls fabric.old fabric.new }
+        ensures net { Advances F.faults F.opened F.runs F.advances fabric.old fabric.new (is_ok result) }
     {
         let mut rounds: u32 = 0;
         'settling: loop {
@@ -263,11 +245,7 @@ impl Live {
         ensures ties { OnOk result ((outcome : Outcome) (clock events begun : ℕ) (marks : List HistoryMark) → Ties (At (λ r. IsSettled shape.now r self.old outcome) clock events begun) (F.told fabric.old) marks → Ties (At (λ r. GivesAllUp shape.now r self.new outcome []) clock events begun) (F.told fabric.new) marks) }
         ensures fits { FitsLive shape.now self.new }
         ensures operation { self.new.operation ≡ self.old.operation }
-        ensures opened { F.opened fabric.new ≡ F.opened fabric.old }
-        ensures later { F.faults fabric.old ≤ F.faults fabric.new }
-        ensures run { (cluster : Shape) (place : List ℕ) → KeepsRun (F.runs fabric.old cluster place) (F.runs fabric.new cluster place) }
-        ensures goes { OnOk result (F.goes fabric.old fabric.new) }
-        ensures falls { F.falls fabric.old fabric.new }
+        ensures net { Advances F.faults F.opened F.runs F.advances fabric.old fabric.new (is_ok result) }
     {
         let mut batch = Vec::new(alloc);
         self.op.sends(alloc, &ORDER, &mut batch)?;
@@ -289,11 +267,7 @@ impl Live {
         ensures ties { OnOk result ((outcome : Outcome) (clock events begun : ℕ) (marks : List HistoryMark) → Ties (At (λ r. GivesAllUp shape.now r self.old outcome batch.now) clock events begun) (F.told fabric.old) marks → Ties (At (λ r. GivesAllUp shape.now r self.new outcome []) clock events begun) (F.told fabric.new) marks) }
         ensures fits { FitsLive shape.now self.new }
         ensures operation { self.new.operation ≡ self.old.operation }
-        ensures opened { F.opened fabric.new ≡ F.opened fabric.old }
-        ensures later { F.faults fabric.old ≤ F.faults fabric.new }
-        ensures run { (cluster : Shape) (place : List ℕ) → KeepsRun (F.runs fabric.old cluster place) (F.runs fabric.new cluster place) }
-        ensures goes { OnOk result (F.goes fabric.old fabric.new) }
-        ensures falls { F.falls fabric.old fabric.new }
+        ensures net { Advances F.faults F.opened F.runs F.advances fabric.old fabric.new (is_ok result) }
     {
         for sending in batch {
             self.give_up(alloc, shape, sending, fabric)?;
@@ -315,11 +289,7 @@ impl Live {
         ensures ties { OnOk result ((outcome : Outcome) (clock events begun : ℕ) (marks : List HistoryMark) (rest : List Sending) → Ties (At (λ r. GivesAllUp shape.now r self.old outcome (sending.now ∷ rest)) clock events begun) (F.told fabric.old) marks → Ties (At (λ r. GivesAllUp shape.now r self.new outcome rest) clock events begun) (F.told fabric.new) marks) }
         ensures fits { FitsLive shape.now self.new }
         ensures operation { self.new.operation ≡ self.old.operation }
-        ensures opened { F.opened fabric.new ≡ F.opened fabric.old }
-        ensures later { F.faults fabric.old ≤ F.faults fabric.new }
-        ensures run { (cluster : Shape) (place : List ℕ) → KeepsRun (F.runs fabric.old cluster place) (F.runs fabric.new cluster place) }
-        ensures goes { OnOk result (F.goes fabric.old fabric.new) }
-        ensures falls { F.falls fabric.old fabric.new }
+        ensures net { Advances F.faults F.opened F.runs F.advances fabric.old fabric.new (is_ok result) }
     {
         let entry = self.entry(shape, 0, 0, sending);
         post(

@@ -10,12 +10,6 @@ returns-in_ok-leave-in-Some-clause-ties g c = λ begun marks t.
     c.in_ok-leave-in-Some.ensures.ties c.in-Some.outcome c.args.clock c.args.events begun marks
     (subst (λ (o : Option Outcome). Ties (At (λ r. after_settling shape r c.settle.new.self o) c.args.clock c.args.events begun) (g.F.Fabric.told c.settle.new.fabric) marks) c.in-Some.is (c.in_ok-outcome.ensures.ties begun marks t))
 
-pub returns-in_ok-leave-in-Some-clause-goes : goal.returns-in_ok-leave-in-Some-clause-goes
-returns-in_ok-leave-in-Some-clause-goes g c = g.met.F.Fabric.goes_on c.args.fabric.now c.settle.new.fabric c.leave.new.fabric c.in_ok-outcome.ensures.goes c.in_ok-leave-in-Some.ensures.goes
-
-pub returns-in_ok-leave-in-Some-clause-falls : goal.returns-in_ok-leave-in-Some-clause-falls
-returns-in_ok-leave-in-Some-clause-falls g c = g.met.F.Fabric.falls_on c.args.fabric.now c.settle.new.fabric c.leave.new.fabric c.settle.ensures.falls c.leave.ensures.falls
-
 pub returns-in-None-clause-ties : goal.returns-in-None-clause-ties
 returns-in-None-clause-ties g c = λ begun marks t.
     subst (λ (o : Option Outcome). Ties (At (λ r. after_settling c.args.shape.now r c.settle.new.self o) c.args.clock c.args.events begun) (g.F.Fabric.told c.settle.new.fabric) marks) c.in-None.is (c.in_ok-outcome.ensures.ties begun marks t)

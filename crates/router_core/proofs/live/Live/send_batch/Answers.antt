@@ -1,13 +1,9 @@
-use Rattle.std.proofs.Common.{◌≡◌, ◌+◌, ◌∷◌, List, drop, sym, ap, ◌∙◌, subst, arith}
+use Rattle.std.proofs.Common.{◌≡◌, ◌+◌, ◌∷◌, List, drop, sym, ap, ◌∙◌, subst}
 use Rattle.std.proofs.lemmas.List.{drop_all, drop_more}
 use Rattle.operation.specs.declared.sending.Sending.{Sending}
 use Rattle.router_core.specs.Stands.{At, OwnsLive}
 use Rattle.router_core.specs.Ties.{Ties}
 use Rattle.router_core.proofs.live.Live.send_batch.Goals as goal
-
-pub returns-in_err-send_one-clause-falls : goal.returns-in_err-send_one-clause-falls
-returns-in_err-send_one-clause-falls g c =
-    g.met.F.Fabric.falls_on c.args.fabric.now c.loop-sending.fabric c.send_one.new.fabric (g.met.F.Fabric.falls_as_it_goes c.args.fabric.now c.loop-sending.fabric c.loop-sending.invariant.goes) c.send_one.ensures.falls
 
 pub loop-sending-preserved : goal.loop-sending-preserved
 loop-sending-preserved g c =
@@ -18,13 +14,10 @@ loop-sending-preserved g c =
     record {
       fits = e.fits;
       operation = e.operation ∙ i.operation;
-      ready = e.opened ∙ i.ready;
       ties = λ begun marks t.
           e.ties begun marks (drop (at + 1) c.args.batch.now)
           (subst (λ (l : List Sending). Ties (At (λ r. OwnsLive c.args.shape.now r c.loop-sending.self l) c.args.clock c.args.events begun) (g.F.Fabric.told c.loop-sending.fabric) marks) left (i.ties begun marks t));
-      later = let a = i.later in let b = e.later in omega (arith, a, b);
-      run = λ cluster place opening h. e.run cluster place opening (i.run cluster place opening h);
-      goes = g.met.F.Fabric.goes_on c.args.fabric.now c.loop-sending.fabric c.send_one.new.fabric i.goes e.goes;
+      net = g.met.F.Fabric.net_and_then c.args.fabric.now c.loop-sending.fabric c.send_one.new.fabric _ i.net e.net;
     }
 
 pub returns-clause-ties : goal.returns-clause-ties

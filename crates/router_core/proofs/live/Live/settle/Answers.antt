@@ -1,4 +1,4 @@
-use Rattle.std.proofs.Common.{[], ◌∷◌, Bool, Option, IfSome, IsNone, refl, ◌∙◌, subst, arith}
+use Rattle.std.proofs.Common.{[], ◌∷◌, Bool, Option, IfSome, IsNone, refl, ◌∙◌, subst}
 use Rattle.quorum_op.specs.declared.outcome.Outcome.{Outcome}
 use Rattle.world_model.specs.Record.{Decided, Record}
 use Rattle.router_core.specs.Stands.{At, IsPending, IsSettled, OwnsLive, after_asking}
@@ -14,27 +14,12 @@ returns-in-Some-clause-ties g c = λ begun marks t.
     let over = subst (λ (o : Option Outcome). IfSome o (λ outcome. (r : Record) → OwnsLive shape r live [] → IsSettled shape (Decided live.operation outcome ∷ r) c.poll.new.self outcome)) c.in-Some.is c.in_ok-outcome.ensures.over in
     ties_over shape c.args.clock c.args.events begun live c.poll.new.self c.in-Some.outcome (g.F.Fabric.told c.settling.fabric) marks over (c.settling.invariant.ties begun marks t)
 
-pub returns-in_err-more-clause-falls : goal.returns-in_err-more-clause-falls
-returns-in_err-more-clause-falls g c =
-    g.met.F.Fabric.falls_on c.args.fabric.now c.settling.fabric c.ask.new.fabric (g.met.F.Fabric.falls_as_it_goes c.args.fabric.now c.settling.fabric c.settling.invariant.goes) c.ask.ensures.falls
-
 pub returns-then-not-more-clause-ties : goal.returns-then-not-more-clause-ties
 returns-then-not-more-clause-ties g c = λ begun marks t.
     let shape = c.args.shape.now in
     let pending = subst (λ (o : Option Outcome). IsNone o → (r : Record) → OwnsLive shape r c.settling.self [] → IsPending shape r c.poll.new.self) c.in-None.is c.in_ok-outcome.ensures.pending refl in
     subst (λ (more : Bool). Ties (At (λ r. after_asking shape r c.ask.new.self more) c.args.clock c.args.events begun) (g.F.Fabric.told c.ask.new.fabric) marks) c.if-not-more.true
     (c.in_ok-more.ensures.ties begun marks (ties_pending shape c.args.clock c.args.events begun c.settling.self c.poll.new.self (g.F.Fabric.told c.settling.fabric) marks pending (c.settling.invariant.ties begun marks t)))
-
-pub returns-then-not-more-clause-goes : goal.returns-then-not-more-clause-goes
-returns-then-not-more-clause-goes g c = g.met.F.Fabric.goes_on c.args.fabric.now c.settling.fabric c.ask.new.fabric c.settling.invariant.goes c.in_ok-more.ensures.goes
-
-pub returns-then-not-more-clause-falls : goal.returns-then-not-more-clause-falls
-returns-then-not-more-clause-falls g c =
-    g.met.F.Fabric.falls_on c.args.fabric.now c.settling.fabric c.ask.new.fabric (g.met.F.Fabric.falls_as_it_goes c.args.fabric.now c.settling.fabric c.settling.invariant.goes) c.ask.ensures.falls
-
-pub returns-in_default-clause-falls : goal.returns-in_default-clause-falls
-returns-in_default-clause-falls g c =
-    g.met.F.Fabric.falls_on c.args.fabric.now c.settling.fabric c.ask.new.fabric (g.met.F.Fabric.falls_as_it_goes c.args.fabric.now c.settling.fabric c.settling.invariant.goes) c.ask.ensures.falls
 
 pub settling-preserved : goal.settling-preserved
 settling-preserved g c =
@@ -45,11 +30,8 @@ settling-preserved g c =
     record {
       fits = c.ask.ensures.fits;
       operation = c.ask.ensures.operation ∙ (c.poll.ensures.operation ∙ i.operation);
-      ready = c.ask.ensures.opened ∙ i.ready;
       ties = λ begun marks t.
           subst (λ (more : Bool). Ties (At (λ r. after_asking shape r c.ask.new.self more) c.args.clock c.args.events begun) (g.F.Fabric.told c.ask.new.fabric) marks) c.if-not-more.false
           (e.ties begun marks (ties_pending shape c.args.clock c.args.events begun c.settling.self c.poll.new.self (g.F.Fabric.told c.settling.fabric) marks pending (i.ties begun marks t)));
-      later = let a = i.later in let b = c.ask.ensures.later in omega (arith, a, b);
-      run = λ cluster place opening h. c.ask.ensures.run cluster place opening (i.run cluster place opening h);
-      goes = g.met.F.Fabric.goes_on c.args.fabric.now c.settling.fabric c.ask.new.fabric i.goes e.goes;
+      net = g.met.F.Fabric.net_and_then c.args.fabric.now c.settling.fabric c.ask.new.fabric _ i.net e.net;
     }
