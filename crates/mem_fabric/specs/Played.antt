@@ -97,8 +97,8 @@ abbrev pub orders_of : List Act → List OrderAnswer
 orders_of [] = []
 orders_of (act ∷ before) = order_in act ++ orders_of before
 
--- The calls told are those of one opening for the shape, of sends, of orders, of events that waited, and of just these moves, in order and by
--- the rule of moves. The orders are those that the calls tell, each once and in order.
+-- The calls told are those of one opening for the shape, of sends, of orders, of events that waited, and of just these moves, each picked from
+-- what was there, in order and by the rule of moves. The orders are those that the calls tell, each once and in order.
 pub record IsPlayed (shape : Shape) (moves : List GivenMove) (calls : List Called) : Type 0 where
   pub acts : List Act
   pub did : DidAll acts
