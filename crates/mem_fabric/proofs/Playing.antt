@@ -118,13 +118,18 @@ pub plays_given : (given : List GivenMove) (n n' : Network) (event : Event) → 
 plays_given given n n' event oldest e = (Gives event ∷ [], tt, record { moves = sym (append-nil given); may = (tt, oldest); network = e })
 
 -- what a schedule is asked is what is there
-pub picked_there : (s : State) (shape : Shape) (requests replies : ℕ) (chosen : Move) → s.shape ≡ Some shape → requests ≡ length s.requests → replies ≡ length s.replies
+picked_there : (s : State) (shape : Shape) (requests replies : ℕ) (chosen : Move) → s.shape ≡ Some shape → requests ≡ length s.requests → replies ≡ length s.replies
     → given_move shape.nodes shape.partitions requests replies chosen ≡ picked_in (network_of s) chosen
-picked_there s shape requests replies chosen open asked given =
-    let here : Option Shape → ℕ → ℕ → GivenMove = λ found sent made. given_move (nodes_in found) (partitions_in found) sent made chosen in
-    ap (λ found. here found requests replies) (sym open)
-    ∙ ap (λ k. here s.shape k replies) (asked ∙ sym (length-map s.requests asked_number))
-    ∙ ap (λ k. here s.shape (length (network_of s).requests) k) (given ∙ sym (length-map s.replies replied_number))
+picked_there s shape requests replies chosen shaped sent made =
+    let here : Option Shape → ℕ → ℕ → GivenMove = λ found a b. given_move (nodes_in found) (partitions_in found) a b chosen in
+    ap (λ found. here found requests replies) (sym shaped)
+    ∙ ap (λ k. here s.shape k replies) (sent ∙ sym (length-map s.requests asked_number))
+    ∙ ap (λ k. here s.shape (length (network_of s).requests) k) (made ∙ sym (length-map s.replies replied_number))
+
+pub given_there : (given between given' : List GivenMove) (s : State) (shape : Shape) (requests replies : ℕ) (chosen : Move) → given' ≡ between ++ given_move shape.nodes shape.partitions requests replies chosen ∷ [] → between ≡ given
+    → s.shape ≡ Some shape → requests ≡ length s.requests → replies ≡ length s.replies → given' ≡ given ++ picked_in (network_of s) chosen ∷ []
+given_there given between given' s shape requests replies chosen gave stays shaped sent made =
+    gave ∙ ap (λ l. l ++ given_move shape.nodes shape.partitions requests replies chosen ∷ []) stays ∙ ap (λ m. given ++ m ∷ []) (picked_there s shape requests replies chosen shaped sent made)
 
 pub plays_next : (given given' : List GivenMove) (n n' : Network) (chosen : Move) (result : Result Event Memory) (S T K L : Type 0) → IsSome n.shape → n.queue ≡ [] → Does n chosen n' result → given' ≡ given ++ picked_in n chosen ∷ [] → S → T → K → L
     → OnOk result (Plays given n given' n' × S × T × K × L)
