@@ -44,6 +44,7 @@ mod op;
 mod ordering;
 mod router;
 mod sending;
+mod taking;
 mod turning;
 
 pub use ending::Ended;

@@ -7,7 +7,7 @@ ghost use Rattle.world_model.specs.declared.history.HistoryMark.{HistoryMark};
 ghost use Rattle.world_model.specs.declared.history.HistoryMark.TheVariants.{Ordered};
 ghost use Rattle.world_model.specs.declared.shape.Shape.{Shape};
 ghost use Rattle.world_model.specs.Fabric.{Awaits, KeepsRun, TakesOrder};
-ghost use Rattle.router_core.specs.Stands.{Stands, is_idle};
+ghost use Rattle.router_core.specs.Stands.{Stands, live_in};
 ghost use Rattle.router_core.specs.Ties.{Ties};
 
 use crate::router::Router;
@@ -16,7 +16,7 @@ use std::alloc::Global;
 use world_model::{Fabric, Order, SendFault, Told};
 
 impl Router {
-    /// Gives the network an order, and takes the events that are queued then, so that an operation under way goes on. A refusal
+    /// Gives the network an order, and takes the events that are queued then, so that the operations under way go on. A refusal
     /// leaves all as it was. After `Memory` the order may have been carried out.
     pub fn order<F: Fabric>(
         &mut self,
@@ -31,7 +31,7 @@ impl Router {
         ensures taken { OnOk result (Awaits (F.told fabric.new) 0) }
         ensures failed { IsErrOf result SendFault.Failed → (self.new ≡ self.old) × (F.told fabric.new ≡ F.told fabric.old) }
         ensures cause { IsErrOf result SendFault.Failed → Rose (F.faults fabric.old) (F.faults fabric.new) }
-        ensures idle { (IsErrOf result SendFault.Memory → ⊥) → is_idle self.new.stage ≡ is_idle self.old.stage }
+        ensures live { (IsErrOf result SendFault.Memory → ⊥) → live_in self.new.stages ≡ live_in self.old.stages }
         ensures begun { self.new.begun ≡ self.old.begun }
         ensures shape { self.new.shape ≡ self.old.shape }
         ensures opened { F.opened fabric.new ≡ F.opened fabric.old }
@@ -41,6 +41,11 @@ impl Router {
         ensures falls { F.falls fabric.old fabric.new }
     {
         let told = fabric.admin(order)?;
+        // A count that is full ends as want of memory does.
+        let Some(turns) = self.turns.checked_add(1) else {
+            return Err(SendFault::Memory);
+        };
+        self.turns = turns;
         match self.take_queued(alloc, fabric) {
             Ok(()) => Ok(told),
             Err(_) => Err(SendFault::Memory),
@@ -52,7 +57,7 @@ impl Router {
         requires open { F.opened fabric.old ≡ Some self.old.shape }
         ensures ties { OnOk result ((marks : List HistoryMark) → Ties (Stands self.old) (F.told fabric.old) marks → Ties (Stands self.new) (F.told fabric.new) marks) }
         ensures taken { OnOk result (Awaits (F.told fabric.new) 0) }
-        ensures idle { OnOk result (is_idle self.new.stage ≡ is_idle self.old.stage) }
+        ensures live { OnOk result (live_in self.new.stages ≡ live_in self.old.stages) }
         ensures begun { self.new.begun ≡ self.old.begun }
         ensures shape { self.new.shape ≡ self.old.shape }
         ensures opened { F.opened fabric.new ≡ F.opened fabric.old }
