@@ -22,7 +22,8 @@ use Rattle.router_core.specs.declared.live.Live.{Live}
 use Rattle.router_core.specs.declared.router.Stage.{Stage}
 use Rattle.router_core.specs.Jobs.{Job, Puts, Gets, Deletes, begun_as, piece_for, target_for}
 use Rattle.router_core.specs.Stages.{simple_rules, AimsBelow, AimsWithin, IsDecidedIn, IsGoing}
-use Rattle.router_core.specs.Stands.{AreOthers, Beside, Counts, EachEnds, EachStage, HasLeft, IsOther, OwnsLive, OwnsStage, RestsStage, StageWaits, Waits, number_of}
+use Rattle.router_core.specs.Fits.{number_of}
+use Rattle.router_core.specs.Stands.{AreOthers, Beside, Counts, EachEnds, EachStage, HasLeft, IsOther, OwnsLive, OwnsStage, RestsStage, StageWaits, Waits}
 use Rattle.router_core.proofs.AskLaws.{drawn_later}
 use Rattle.router_core.proofs.StageLaws.{begun_rises, decided_later, deletes_on, over_apart, under_way_apart}
 

@@ -1,6 +1,7 @@
 -- Which operation ends first, and that the record goes on by its end.
-use Rattle.std.proofs.Common.{◌≡◌, ◌≢◌, ◌⊎◌, ℕ, ◌+◌, ◌<◌, ◌≤◌, ◌==◌, nat_lt, nat_tests, Bool, true, false, ◌&&◌, ◌||◌, List, [], ◌∷◌, ◌++◌, length, take, drop, Option, Some, None, IfSome, IsNone, refl, sym, ap, ◌∙◌, subst, inl, inr, arith}
+use Rattle.std.proofs.Common.{◌≡◌, ◌≢◌, ◌⊎◌, ℕ, ◌+◌, ◌<◌, ◌^◌, ◌≤◌, ◌==◌, nat_lt, Bool, true, false, ◌&&◌, ◌||◌, List, [], ◌∷◌, ◌++◌, length, take, drop, Option, Some, None, IfSome, IsNone, refl, sym, ap, ◌∙◌, subst, inl, inr, arith}
 use Rattle.std.specs.List.{list_all}
+use Rattle.std.proofs.lemmas.Bool.Decides.{nat_tests}
 use Rattle.std.proofs.lemmas.Grind.{common_steps}
 use Rattle.quorum_op.specs.declared.outcome.Outcome.{Outcome}
 use Rattle.quorum_op.proofs.CountLaws.{and_left, and_right}
@@ -14,6 +15,7 @@ use Rattle.world_model.specs.Router.{GoesFirst, IsKept}
 use Rattle.world_model.proofs.CellLaws.{number_true}
 use Rattle.world_model.proofs.ListLaws.{has_at, head_has}
 use Rattle.router_core.specs.declared.ending.Ended.{Ended}
+use Rattle.router_core.specs.declared.live.Live.{Live}
 use Rattle.router_core.specs.declared.router.Stage.{Stage}
 use Rattle.router_core.specs.declared.taking.Done.{Done}
 use Rattle.router_core.specs.Ending.{IsFirst, IsNotBefore, IsTakenOut, StandsIn, end_items, end_of, goes_first}
@@ -31,11 +33,8 @@ use Rattle.router_core.proofs.TieLaws.{tie_items}
 
 all_more : (stages : List Stage) (stage : Stage) → list_all is_under_way stages ≡ true → is_under_way stage ≡ true → list_all is_under_way (stages ++ stage ∷ []) ≡ true
 all_more [] stage all one = ap (λ (b : Bool). b && true) one
-all_more (x ∷ stages) stage all one = go (is_under_way x) refl
-  where
-    go : (b : Bool) → is_under_way x ≡ b → list_all is_under_way ((x ∷ stages) ++ stage ∷ []) ≡ true
-    go true e = ap (λ (b : Bool). b && list_all is_under_way (stages ++ stage ∷ [])) e ∙ all_more stages stage (sym (ap (λ (b : Bool). b && list_all is_under_way stages) e) ∙ all) one
-    go false e = absurd (let z = sym (ap (λ (b : Bool). b && list_all is_under_way stages) e) ∙ all in cc z)
+all_more (Stage.UnderWay live ∷ stages) stage all one = all_more stages stage all one
+all_more (Stage.Over operation outcome turn ∷ stages) stage all one = absurd (cc all)
 
 none_before : (turn operation : ℕ) (stages : List Stage) → list_all is_under_way stages ≡ true → EachStage (IsNotBefore turn operation) stages
 none_before turn operation [] all = tt
@@ -58,12 +57,17 @@ stays_in stages done stage s = record {
   before = s.before;
   behind = s.behind ++ stage ∷ [];
   outcome = s.outcome;
-  whole = ap (λ (l : List Stage). l ++ stage ∷ []) s.whole ∙ grind common_steps;
+  whole = ap (λ (l : List Stage). l ++ stage ∷ []) s.whole ∙ grind (arith, common_steps);
   place_is = s.place_is;
 }
 
 pub first_stays : (stages : List Stage) (done : Done) (stage : Stage) → IsNotBefore done.turn done.operation stage → IsFirst (Some done) stages → IsFirst (Some done) (stages ++ stage ∷ [])
 first_stays stages done stage not f = (stays_in stages done stage f.0, each_more (IsNotBefore done.turn done.operation) stages (stage ∷ []) f.1 (not, tt))
+
+-- one that is under way changes nothing
+pub under_way_sooner : (first : Option Done) (stages : List Stage) (stage : Stage) (live : Live) → stage ≡ Stage.UnderWay live → IsFirst first stages → IsFirst first (stages ++ stage ∷ [])
+under_way_sooner None stages stage live is f = all_more stages stage f (ap (λ (s : Stage). is_under_way s) is)
+under_way_sooner (Some done) stages stage live is f = first_stays stages done stage (subst (λ (s : Stage). IsNotBefore done.turn done.operation s) (sym is) tt) f
 
 -- of two that don't stand in this order the other one goes first, or they are one
 not_first : (old new : Done) → goes_first old new ≡ false → (new.turn < old.turn) ⊎ (new.turn ≡ old.turn) × (new.operation ≤ old.operation)
@@ -108,7 +112,7 @@ first_passed stages old new outcome place not f = (
 
 -- and one that it goes before leaves it the first
 pub first_kept : (stages : List Stage) (old new : Done) (outcome : Outcome) → goes_first old new ≡ true → IsFirst (Some old) stages → IsFirst (Some old) (stages ++ Stage.Over new.operation outcome new.turn ∷ [])
-first_kept stages old new outcome yes f = first_stays stages old (Stage.Over new.operation outcome new.turn) (not_before old new yes) f
+first_kept stages old new outcome goes f = first_stays stages old (Stage.Over new.operation outcome new.turn) not_before f
   where
     less_is : (a b : ℕ) → nat_lt a b ≡ true → a < b
     less_is a b e = grind (arith, nat_tests)
@@ -116,11 +120,11 @@ first_kept stages old new outcome yes f = first_stays stages old (Stage.Over new
     by_turn : (b : Bool) → nat_lt old.turn new.turn ≡ b → (old.turn < new.turn) ⊎ (old.turn ≡ new.turn) × (old.operation < new.operation)
     by_turn true e = inl (less_is old.turn new.turn e)
     by_turn false e =
-        let rest : ((old.turn == new.turn) && nat_lt old.operation new.operation) ≡ true = sym (ap (λ (b : Bool). b || ((old.turn == new.turn) && nat_lt old.operation new.operation)) e) ∙ yes in
+        let rest : ((old.turn == new.turn) && nat_lt old.operation new.operation) ≡ true = sym (ap (λ (b : Bool). b || ((old.turn == new.turn) && nat_lt old.operation new.operation)) e) ∙ goes in
         inr (number_true old.turn new.turn (and_left (old.turn == new.turn) _ rest), less_is old.operation new.operation (and_right (old.turn == new.turn) _ rest))
 
-    not_before : (old new : Done) → goes_first old new ≡ true → IsNotBefore old.turn old.operation (Stage.Over new.operation outcome new.turn)
-    not_before o n y = elim (by_turn (nat_lt old.turn new.turn) refl) [
+    not_before : IsNotBefore old.turn old.operation (Stage.Over new.operation outcome new.turn)
+    not_before = elim (by_turn (nat_lt old.turn new.turn) refl) [
       | inl l ↦ (λ k. omega (arith, k, l), λ e k. omega (arith, e, l))
       | inr q ↦ (λ k. let e = q.0 in omega (arith, k, e), λ e k. let m = q.1 in omega (arith, k, m))
     ]
@@ -168,20 +172,20 @@ goes_on shape clock events begun turns stages done outcome r c not left = ends (
     none e = cc
 
     not_kept : (at : Record) → Earlier (Decided done.operation outcome ∷ at) r → (other : ℕ) (how : Outcome) (then : Record) → Earlier (Decided other how ∷ then) r → GoesFirst then other at done.operation → HasOver stages other how → ⊥
-    not_kept at own other how then e first h =
+    not_kept at own other how then e before h =
         let o = over_since shape r stages other how done c.rest not h in
         let one = decided_once (simple_rules shape) r done.operation outcome outcome at left.since.at kept own left.since.decided in
         let two = decided_once (simple_rules shape) r other how how then o.1.at kept e o.1.decided in
         let t : turns_in at ≡ done.turn = ap turns_in one.1 ∙ left.since.turn_is in
         let s : turns_in then ≡ o.0 = ap turns_in two.1 ∙ o.1.turn_is in
-        elim first [
+        elim before [
           | inl l ↦ o.2.0 (omega (arith, t, s, l))
           | inr q ↦ (let e = q.0 in o.2.1 (omega (arith, t, s, e)) q.1)
         ]
 
     first : (at : Record) → Earlier (Decided done.operation outcome ∷ at) r → outcome ≢ Outcome.Cancelled → (other : ℕ) (how : Outcome) (then : Record) → Earlier (Decided other how ∷ then) r → GoesFirst then other at done.operation → Has r (Marked (End other how))
-    first at own uncancelled other how then e first = elim (c.ended other how (head_has _ then r e)) [
-      | inl h ↦ absurd (not_kept at own other how then e first h)
+    first at own uncancelled other how then e before = elim (c.ended other how (head_has _ then r e)) [
+      | inl h ↦ absurd (not_kept at own other how then e before h)
       | inr b ↦ elim b [
         | inl h ↦ absurd h
         | inr d ↦ elim d [ inl end ↦ end | inr at ↦ absurd (none at) ]

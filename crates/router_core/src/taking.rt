@@ -46,8 +46,8 @@ fn sooner(first: Option<Done>, place: usize, stage: &Stage) -> Option<Done>
                 turn: *turn,
             };
             match first {
-                Some(first) if goes_first(first, done) => Some(first),
-                _ => Some(done),
+                Some(first) => Some(if goes_first(first, done) { first } else { done }),
+                None => Some(done),
             }
         }
     }
