@@ -359,6 +359,9 @@ pub live_length : (stages : List Stage) → length (live_in stages) ≡ length s
 live_length [] = refl
 live_length (x ∷ stages) = let e = live_length stages in omega (arith, e)
 
+pub live_same : (stages others : List Stage) → live_in stages ≡ live_in others → length stages ≡ length others
+live_same stages others e = sym (live_length stages) ∙ (ap length e ∙ live_length others)
+
 pub length_more : (xs : List Stage) (y : Stage) → length (xs ++ y ∷ []) ≡ length xs + 1
 length_more [] y = omega arith
 length_more (x ∷ xs) y = let e = length_more xs y in omega (arith, e)

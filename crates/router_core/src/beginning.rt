@@ -182,16 +182,6 @@ impl Router {
         self.add(stage, turn)
     }
 
-    /// The turn that a script line begins. A count that is full ends as want of memory does.
-    fn next_turn(&self) -> Result<u64, Memory>
-        ensures { IfOk result (λ turn. turn ≡ self.now.turns + 1) }
-    {
-        match self.turns.checked_add(1) {
-            Some(turn) => Ok(turn),
-            None => Err(Memory),
-        }
-    }
-
     /// Keeps an operation that has begun, the last one by its number.
     fn add(&mut self, stage: Stage, turn: u64) -> Result<(), Memory>
         requires room { length (live_in self.old.stages) < 16 }

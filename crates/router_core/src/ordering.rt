@@ -41,11 +41,10 @@ impl Router {
         ensures falls { F.falls fabric.old fabric.new }
     {
         let told = fabric.admin(order)?;
-        // A count that is full ends as want of memory does.
-        let Some(turns) = self.turns.checked_add(1) else {
+        let Ok(turn) = self.next_turn() else {
             return Err(SendFault::Memory);
         };
-        self.turns = turns;
+        self.turns = turn;
         match self.take_queued(alloc, fabric) {
             Ok(()) => Ok(told),
             Err(_) => Err(SendFault::Memory),

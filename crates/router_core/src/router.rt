@@ -1,10 +1,11 @@
 //! What a router keeps.
 
-ghost use Rattle.std.specs.Prelude.{◌≡◌, ◌%◌, ◌<◌, [], true, Some};
+ghost use Rattle.std.specs.Prelude.{◌≡◌, ◌+◌, ◌%◌, ◌<◌, [], IfOk};
 ghost use Rattle.world_model.specs.Shape.{IsShape};
 ghost use Rattle.router_core.specs.Stands.{Stands};
 
 use crate::live::Live;
+use blob_id::Memory;
 use quorum_op::Outcome;
 use std::alloc::Global;
 use std::marker::Model;
@@ -88,5 +89,15 @@ impl Router {
         ensures within { result < self.now.shape.partitions }
     {
         self.begun % self.shape.partitions
+    }
+
+    /// The turn that an event or a script line begins. A count that is full ends as want of memory does.
+    pub(crate) fn next_turn(&self) -> Result<u64, Memory>
+        ensures { IfOk result (λ turn. turn ≡ self.now.turns + 1) }
+    {
+        match self.turns.checked_add(1) {
+            Some(turn) => Ok(turn),
+            None => Err(Memory),
+        }
     }
 }

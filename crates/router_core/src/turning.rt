@@ -37,29 +37,31 @@ impl Router {
         ensures falls { F.falls fabric.old fabric.new }
     {
         // A count that is full ends as want of memory does.
-        let (Some(events), Some(turns)) = (self.events.checked_add(1), self.turns.checked_add(1)) else {
+        let Some(events) = self.events.checked_add(1) else {
             return Err(Memory);
         };
+        let turn = self.next_turn()?;
         let event = fabric.next()?;
         let heard = hear(alloc, &event)?;
-        self.take(alloc, heard, events, turns)?;
+        self.take(alloc, heard, events, turn)?;
         self.settle(alloc, fabric)?;
         Ok(())
     }
 
-    /// Takes an event by what was heard of it. Then there were so many events and turns.
+    /// Takes an event by what was heard of it, which is then so many, in this turn.
     fn take(
         &mut self,
         alloc: Global,
         heard: Heard,
         events: u64,
-        turns: u64,
+        turn: u64,
     ) -> Result<(), Memory>
         requires next { events ≡ self.old.events + 1 }
+        requires turn { turn ≡ self.old.turns + 1 }
         ensures told { OnOk result (AllTold heard self.old.events self.old.stages self.new.stages) }
         ensures clock { self.new.clock ≡ clock_after heard self.old.clock }
-        ensures events { self.new.events ≡ events }
-        ensures turns { self.new.turns ≡ turns }
+        ensures events { self.new.events ≡ self.old.events + 1 }
+        ensures turns { self.new.turns ≡ self.old.turns + 1 }
         ensures live { live_in self.new.stages ≡ live_in self.old.stages }
         ensures begun { self.new.begun ≡ self.old.begun }
         ensures shape { self.new.shape ≡ self.old.shape }
@@ -67,7 +69,7 @@ impl Router {
         self.clock = clock_after(&heard, self.clock);
         let before = self.events;
         self.events = events;
-        self.turns = turns;
+        self.turns = turn;
         tell_all(&mut self.stages, alloc, heard, before)
     }
 
