@@ -18,6 +18,7 @@ use Rattle.router_core.specs.Fits.{RouterView}
 use Rattle.router_core.specs.Stages.{simple_rules}
 use Rattle.router_core.specs.Stands.{EachStage, HasLeft, RestsStage, Stands, Waits}
 use Rattle.router_core.specs.Ties.{Ties}
+use Rattle.router_core.specs.Turning.{one_turn_on}
 use Rattle.router_core.proofs.AimLaws.{within_stays, within_took}
 use Rattle.router_core.proofs.LiveLaws.{waits_still, waits_took}
 use Rattle.router_core.proofs.StageLaws.{begun_took, clock_took, decided_later, deletes_on, events_took, network_going, network_over, ordered, ordered_going, ordered_over, turns_took}
@@ -48,13 +49,9 @@ all_ordered : (shape : Shape) (order : Order) (answer : Told) (steps : List Step
 all_ordered shape order answer steps r [] all came s = tt
 all_ordered shape order answer steps r (stage ∷ stages) all came s = (rests_ordered shape order answer steps r stage all came s.0, all_ordered shape order answer steps r stages all came s.1)
 
--- a router that an order was given to, one script line later
-abbrev pub ordered_router : RouterView → RouterView
-ordered_router router = record { shape = router.shape; clock = router.clock; events = router.events; begun = router.begun; turns = router.turns + 1; stages = router.stages }
-
 -- so the router stands as it stood
 stands_ordered : (router : RouterView) (order : Order) (answer : Told) (steps : List Step) (r : Record) → AllNetwork steps → CameTo order answer (map Took steps ++ r) → Stands router r
-    → Stands (ordered_router router) (Marked (Ordered order answer) ∷ (map Took steps ++ r))
+    → Stands (one_turn_on router) (Marked (Ordered order answer) ∷ (map Took steps ++ r))
 stands_ordered router order answer steps r all came s = record {
   clock_is = s.clock_is ∙ sym (clock_took steps r);
   events_are = s.events_are ∙ sym (events_took steps r);
@@ -78,6 +75,6 @@ stands_ordered router order answer steps r all came s = record {
 
 -- and what ties it to the calls goes on by the call that carries the order out
 pub ties_ordered : (router : RouterView) (order : Order) (answer : Told) (told told' : Option (List Called)) (marks : List HistoryMark) → TellsOrder (Ok answer) told told' order → Ties (Stands router) told marks
-    → Ties (Stands (ordered_router router)) told' (Ordered order answer ∷ marks)
+    → Ties (Stands (one_turn_on router)) told' (Ordered order answer ∷ marks)
 ties_ordered router order answer told told' marks tells ties =
-    tie_order (Stands router) (Stands (ordered_router router)) order answer told told' marks tells (λ steps r all came s. stands_ordered router order answer steps r all came s) ties
+    tie_order (Stands router) (Stands (one_turn_on router)) order answer told told' marks tells (λ steps r all came s. stands_ordered router order answer steps r all came s) ties

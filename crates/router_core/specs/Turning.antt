@@ -1,11 +1,11 @@
--- What an event is to a router's clock.
-use Rattle.std.specs.Prelude.{◌≡◌, ℕ, max, List, [], ◌∷◌}
+-- What an event and a script line are to a router.
+use Rattle.std.specs.Prelude.{◌≡◌, ℕ, ◌+◌, max, List, [], ◌∷◌}
 use Rattle.operation.specs.Calls.{Call}
 use Rattle.op_table.specs.Addressed.{heard_by}
 use Rattle.op_table.specs.Told.{left, told_all, told_calls}
 use Rattle.router_core.specs.declared.live.Live.{Live}
 use Rattle.router_core.specs.declared.router.Stage.{Stage}
-use Rattle.router_core.specs.Fits.{DoesJob}
+use Rattle.router_core.specs.Fits.{DoesJob, RouterView}
 use Rattle.router_core.specs.Jobs.{Job}
 use Rattle.world_model.specs.declared.shape.Shape.{Shape}
 use Rattle.op_table.specs.declared.heard.Heard.{Heard}
@@ -37,3 +37,7 @@ abbrev pub event_in : Heard → Heard
 event_in (Heard.Answer node correlation reply) = Heard.Quiet
 event_in (Heard.Stray node correlation) = Heard.Quiet
 event_in heard = heard
+
+-- a router that counts one more event or script line
+abbrev pub one_turn_on : RouterView → RouterView
+one_turn_on router = record { shape = router.shape; clock = router.clock; events = router.events; begun = router.begun; turns = router.turns + 1; stages = router.stages }
