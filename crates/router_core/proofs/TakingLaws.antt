@@ -18,15 +18,15 @@ use Rattle.router_core.specs.declared.ending.Ended.{Ended}
 use Rattle.router_core.specs.declared.live.Live.{Live}
 use Rattle.router_core.specs.declared.router.Stage.{Stage}
 use Rattle.router_core.specs.declared.taking.Done.{Done}
-use Rattle.router_core.specs.Ending.{IsFirst, IsNotBefore, IsTakenOut, StandsIn, end_items, end_of, goes_first}
-use Rattle.router_core.specs.Fits.{FitStages, IsAnswer, RouterView, number_of}
+use Rattle.router_core.specs.Ending.{IsFirst, IsNotBefore, IsTakenFirst, IsTakenOut, StandsIn, goes_first}
+use Rattle.router_core.specs.Fits.{FitStages, Fits, IsAnswer, RouterView, number_of}
 use Rattle.router_core.specs.Stages.{simple_rules, IsDecidedIn, IsGoing}
 use Rattle.router_core.specs.Stands.{Counts, EachStage, HasLeft, HasOver, IsOther, RestsStage, Stands, among, end_marks, is_under_way, live_in}
 use Rattle.router_core.specs.Ties.{Ties}
 use Rattle.router_core.proofs.AimLaws.{within_stays}
 use Rattle.router_core.proofs.OthersLaws.{own_ended, rest_apart}
 use Rattle.router_core.proofs.StageLaws.{decided_once, ends}
-use Rattle.router_core.proofs.TableLaws.{each_more, fits_after, fits_before}
+use Rattle.router_core.proofs.TableLaws.{each_more, fits_after, fits_before, fits_one}
 use Rattle.router_core.proofs.TieLaws.{tie_items}
 
 -- ---- which one goes first
@@ -267,3 +267,48 @@ live_without before stage behind = (live_in before, live_in behind, apart before
 pub length_without : (before : List Stage) (stage : Stage) (behind : List Stage) → length (before ++ behind) ≤ length (before ++ stage ∷ behind)
 length_without [] stage behind = omega arith
 length_without (x ∷ before) stage behind = let e = length_without before stage behind in omega (arith, e)
+
+-- ---- a router from whose table one is taken
+
+abbrev pub keeping : RouterView → List Stage → RouterView
+keeping router stages = record { shape = router.shape; clock = router.clock; events = router.events; begun = router.begun; turns = router.turns; stages = stages }
+
+-- what is said of the first that is over, if there is one
+abbrev pub TakesFirst : Option Ended → (old new : List Stage) → Type 0
+TakesFirst result old new = IfSome result (λ e. IsTakenFirst e old new) × (IsNone result → new ≡ old)
+
+pub first_ties : (old : RouterView) (new : List Stage) (result : Option Ended) (told : Option (List Called)) (marks : List HistoryMark) → Fits old → TakesFirst result old.stages new → Ties (Stands old) told marks → Ties (Stands (keeping old new)) told (end_marks result ++ marks)
+first_ties old new None told marks fits takes t = subst (λ (l : List Stage). Ties (Stands (keeping old l)) told marks) (sym (takes.1 refl)) t
+first_ties old new (Some e) told marks fits takes t =
+    let f = takes.0 in
+    subst (λ (l : List Stage). Ties (Stands (keeping old l)) told (End e.operation e.outcome ∷ marks)) (sym f.stays)
+    (ties_taken old f.before f.behind (record { place = 0; operation = e.operation; turn = f.turn }) e.outcome told marks fits.number f.was fits.stages f.first t)
+
+pub first_fits : (old : RouterView) (new : List Stage) (result : Option Ended) → Fits old → TakesFirst result old.stages new → Fits (keeping old new)
+first_fits old new None fits takes = subst (λ (l : List Stage). Fits (keeping old l)) (sym (takes.1 refl)) fits
+first_fits old new (Some e) fits takes =
+    let f = takes.0 in
+    let stage : Stage = Stage.Over e.operation e.outcome f.turn in
+    record {
+      shape = fits.shape;
+      number = fits.number;
+      few = subst (λ (l : List Stage). length l ≤ 16) (sym f.stays) (let less = length_without f.before stage f.behind in let few = fits.few in let same = ap length f.was in omega (arith, less, few, same));
+      stages = subst (λ (l : List Stage). FitStages old.shape old.begun 1 l) (sym f.stays) (fits_without old.shape old.begun 1 f.before stage f.behind (subst (λ (l : List Stage). FitStages old.shape old.begun 1 l) f.was fits.stages));
+    }
+
+pub first_left : (old new : List Stage) (result : Option Ended) → TakesFirst result old new → IfSome result (λ e. IsTakenOut e.operation (live_in old) (live_in new))
+first_left old new None takes = tt
+first_left old new (Some e) takes =
+    let f = takes.0 in
+    subst (λ (l : List Stage). IsTakenOut e.operation (live_in l) (live_in new)) (sym f.was)
+    (subst (λ (l : List Stage). IsTakenOut e.operation (live_in (f.before ++ Stage.Over e.operation e.outcome f.turn ∷ f.behind)) (live_in l)) (sym f.stays) (live_without f.before (Stage.Over e.operation e.outcome f.turn) f.behind))
+
+pub first_answer : (old : RouterView) (new : List Stage) (result : Option Ended) → Fits old → TakesFirst result old.stages new → IfSome result (λ e. IsAnswer old.shape e.outcome)
+first_answer old new None fits takes = tt
+first_answer old new (Some e) fits takes =
+    let f = takes.0 in
+    (fits_one old.shape old.begun f.before 1 (Stage.Over e.operation e.outcome f.turn) f.behind (subst (λ (l : List Stage). FitStages old.shape old.begun 1 l) f.was fits.stages)).1
+
+-- none is live where none is over and none waits
+pub none_live : (stages : List Stage) → (stages ≡ []) ⊎ (list_all is_under_way stages ≡ false) → list_all is_under_way stages ≡ true → stages ≡ []
+none_live stages over all = elim over [ inl e ↦ e | inr f ↦ absurd (let z : true ≡ false = sym all ∙ f in cc z) ]

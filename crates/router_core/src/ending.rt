@@ -10,7 +10,7 @@ ghost use Rattle.world_model.specs.Fabric.{KeepsRun};
 ghost use Rattle.world_model.specs.Shape.{IsShape};
 ghost use Rattle.router_core.specs.declared.live.Live.{Live};
 ghost use Rattle.router_core.specs.declared.router.Stage.TheVariants as variant;
-ghost use Rattle.router_core.specs.Ending.{AreLeft, IsTakenOut, end_of};
+ghost use Rattle.router_core.specs.Ending.{AreLeft, IsTakenFirst, IsTakenOut, end_of};
 ghost use Rattle.router_core.specs.Fits.{FitsLive, FitsStage, FitStages, IsAnswer, number_of};
 ghost use Rattle.router_core.specs.Stands.{AreOthers, At, Beside, Counts, Owns, OwnsLive, OwnsStage, RestsStage, Stands, after_leaving, among, end_marks, is_under_way, live_in};
 ghost use Rattle.router_core.specs.Ties.{Ties};
@@ -68,8 +68,7 @@ impl Router {
         ensures begun { self.new.begun ≡ self.old.begun }
         ensures shape { self.new.shape ≡ self.old.shape }
     {
-        let place = first_over(self.stages.as_slice())?;
-        end_of(self.stages.remove(place))
+        take_first(&mut self.stages)
     }
 
     /// Sends what the operations want, until each waits for replies or is over.
@@ -197,6 +196,16 @@ fn settle_live<F: Fabric>(
         }
         None => Ok(None),
     }
+}
+
+/// Takes out the operation that is over and goes first, and gives its end.
+fn take_first(stages: &mut Vec<Stage>) -> Option<Ended>
+    ensures first { IfSome result (λ e. IsTakenFirst e stages.old.items stages.new.items) }
+    ensures none { IsNone result → list_all is_under_way stages.old.items ≡ true }
+    ensures same { IsNone result → stages.new.items ≡ stages.old.items }
+{
+    let place = first_over(stages.as_slice())?;
+    end_of(stages.remove(place))
 }
 
 /// The end of an operation that is over.
