@@ -18,8 +18,8 @@ use Rattle.op_table.specs.declared.heard.Heard.{Heard}
 use Rattle.op_table.specs.Addressed.{heard_by}
 use Rattle.router_core.specs.declared.router.Stage.{Stage}
 use Rattle.router_core.specs.declared.live.Live.{Live}
-use Rattle.router_core.specs.Beginning.{BeginsAs, BeginsBeside, begin_items, put_items}
-use Rattle.router_core.specs.Fits.{FitStages, FitsStage, RouterView, number_of}
+use Rattle.router_core.specs.Beginning.{BeginsAs, BeginsBeside, begin_items, put_items, with_stage}
+use Rattle.router_core.specs.Fits.{FitStages, Fits, FitsStage, RouterView, number_of}
 use Rattle.router_core.specs.Jobs.{blob_for}
 use Rattle.router_core.specs.Stages.{simple_rules, IsGoing, IsOver}
 use Rattle.router_core.specs.Stands.{AreOthers, At, Beside, Counts, EachEnds, EachStage, HasOver, IsOther, OwnsStage, RestsStage, Stands, among, around, live_in}
@@ -312,6 +312,15 @@ others_hear first left after place items old new small same before now other eac
 
 -- ---- a router with one operation more
 
+-- as many as there are numbers
+pub live_length : (stages : List Stage) → length (live_in stages) ≡ length stages
+live_length [] = refl
+live_length (x ∷ stages) = let e = live_length stages in omega (arith, e)
+
+pub length_more : (xs : List Stage) (y : Stage) → length (xs ++ y ∷ []) ≡ length xs + 1
+length_more [] y = omega arith
+length_more (x ∷ xs) y = let e = length_more xs y in omega (arith, e)
+
 fits_later : (shape : Shape) (begun : ℕ) (stage : Stage) → FitsStage shape begun stage → FitsStage shape (begun + 1) stage
 fits_later shape begun (Stage.UnderWay live) f = (let k = f.0 in omega (arith, k), f.1)
 fits_later shape begun (Stage.Over operation outcome turn) f = (let k = f.0 in omega (arith, k), f.1)
@@ -321,6 +330,15 @@ fits_pushed shape begun n [] stage least same fits f = (fits, omega (arith, leas
 fits_pushed shape begun n (x ∷ stages) stage least same fits f =
     let m = number_most shape begun x f.0 in
     (fits_later shape begun x f.0, f.1, fits_pushed shape begun (number_of x + 1) stages stage (omega (arith, m)) same fits f.2)
+
+pub pushed_fits : (old : RouterView) (turns : ℕ) (stage : Stage) (stages : List Stage) → Fits old → stages ≡ old.stages ++ stage ∷ [] → length (live_in old.stages) < 16 → old.begun + 1 < 2 ^ 31 → FitsStage old.shape (old.begun + 1) stage → number_of stage ≡ old.begun + 1
+    → Fits (record { shape = old.shape; clock = old.clock; events = old.events; begun = old.begun + 1; turns = turns; stages = stages })
+pushed_fits old turns stage stages fits is room low one same = record {
+  shape = fits.shape;
+  number = low;
+  few = subst (λ (l : List Stage). length l ≤ 16) (sym is) (let more = length_more old.stages stage in let many = live_length old.stages in let few : length (old.stages ++ stage ∷ []) ≤ 16 = omega (arith, more, many, room) in few);
+  stages = subst (λ (l : List Stage). FitStages old.shape (old.begun + 1) 1 l) (sym is) (fits_pushed old.shape old.begun 1 old.stages stage (omega arith) same one fits.stages);
+}
 
 -- against the calls: the others rest, the new one settles, and all of them rest
 pub ties_begun : (old : RouterView) (items : Record) (stage new : Stage) (told told' : Option (List Called)) (marks : List HistoryMark) → old.begun + 1 < 2 ^ 31 → FitStages old.shape old.begun 1 old.stages → AllSession items → BeginsBeside old items stage
@@ -354,14 +372,12 @@ pub live_added : (stages : List Stage) (stage : Stage) → live_in (stages ++ st
 live_added [] stage = refl
 live_added (x ∷ stages) stage = ap (λ (l : List ℕ). number_of x ∷ l) (live_added stages stage)
 
--- as many as there are numbers
-pub live_length : (stages : List Stage) → length (live_in stages) ≡ length stages
-live_length [] = refl
-live_length (x ∷ stages) = let e = live_length stages in omega (arith, e)
-
 pub live_same : (stages others : List Stage) → live_in stages ≡ live_in others → length stages ≡ length others
 live_same stages others e = sym (live_length stages) ∙ (ap length e ∙ live_length others)
 
-pub length_more : (xs : List Stage) (y : Stage) → length (xs ++ y ∷ []) ≡ length xs + 1
-length_more [] y = omega arith
-length_more (x ∷ xs) y = let e = length_more xs y in omega (arith, e)
+-- one that is over at once rests
+pub ties_over_at_once : (old : RouterView) (items : Record) (operation : ℕ) (outcome : Outcome) (turn : ℕ) (told : Option (List Called)) (marks : List HistoryMark) → operation ≡ old.begun + 1 → AllSession items → BeginsBeside old items (Stage.Over operation outcome turn) → Ties (Stands old) told marks
+    → Ties (Stands (with_stage old (Stage.Over operation outcome turn))) told (marks_of items ++ marks)
+ties_over_at_once old items operation outcome turn told marks same session begins t =
+    tie_items (Stands old) (Stands (with_stage old (Stage.Over operation outcome turn))) items told marks session
+    (λ r c. let a = begins r c in unfocus old.shape old.clock old.events (old.begun + 1) (old.turns + 1) (old.begun + 1) old.stages [] (Stage.Over operation outcome turn) (items ++ r) same (a.0, (a.1, tt))) t

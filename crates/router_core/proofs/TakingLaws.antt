@@ -308,7 +308,3 @@ first_answer old new None fits takes = tt
 first_answer old new (Some e) fits takes =
     let f = takes.0 in
     (fits_one old.shape old.begun f.before 1 (Stage.Over e.operation e.outcome f.turn) f.behind (subst (λ (l : List Stage). FitStages old.shape old.begun 1 l) f.was fits.stages)).1
-
--- none is live where none is over and none waits
-pub none_live : (stages : List Stage) → (stages ≡ []) ⊎ (list_all is_under_way stages ≡ false) → list_all is_under_way stages ≡ true → stages ≡ []
-none_live stages over all = elim over [ inl e ↦ e | inr f ↦ absurd (let z : true ≡ false = sym all ∙ f in cc z) ]
