@@ -1,15 +1,13 @@
 -- What a router keeps where an operation begins.
-use Rattle.std.proofs.Common.{◌≡◌, ◌≢◌, ℕ, ◌+◌, ◌-◌, ◌%◌, ◌^◌, ◌<◌, ◌≤◌, true, false, List, [], ◌∷◌, ◌++◌, length, Option, Some, None, refl, sym, ap, ◌∙◌, subst, inl, arith}
+use Rattle.std.proofs.Common.{◌≡◌, ◌≢◌, ℕ, ◌+◌, ◌-◌, ◌%◌, ◌^◌, ◌<◌, ◌≤◌, true, false, List, [], ◌∷◌, length, Some, None, refl, sym, ap, ◌∙◌, subst, inl, arith}
 use Rattle.blob_id.specs.declared.blob.Blob.{Blob}
 use Rattle.blob_id.specs.declared.id.BlobId.{BlobId}
 use Rattle.blob_id.specs.declared.id.Kind.{Kind}
 use Rattle.blob_id.specs.Id.{kind_of, partition_of}
 use Rattle.quorum_op.specs.declared.outcome.Outcome.{Outcome}
 use Rattle.world_model.specs.declared.history.Begun.{Begun}
-use Rattle.world_model.specs.declared.history.HistoryMark.{HistoryMark}
 use Rattle.world_model.specs.declared.history.HistoryMark.TheVariants.{Begin, Drew}
 use Rattle.world_model.specs.declared.shape.Shape.{Shape}
-use Rattle.world_model.specs.declared.step.Called.{Called}
 use Rattle.world_model.specs.Notes.{Piece, clock_of}
 use Rattle.world_model.specs.Ordered.{marks_of}
 use Rattle.world_model.specs.Outcomes.{DrewNothing, Follows, named, names_id}
@@ -25,14 +23,12 @@ use Rattle.op_table.proofs.TiedLaws.{nothing_asked}
 use Rattle.router_core.specs.declared.live.Live.{Live}
 use Rattle.router_core.specs.declared.router.Stage.{Stage}
 use Rattle.router_core.specs.Beginning.{BeginsAs, IsRefused, begin_items, put_items}
-use Rattle.router_core.specs.Fits.{DoesJob, RouterView}
+use Rattle.router_core.specs.Fits.{DoesJob}
 use Rattle.router_core.specs.Jobs.{Job, Puts, Gets, Deletes, HasDrawnId, IsServed, begun_as, piece_for, target_for}
 use Rattle.router_core.specs.Stages.{simple_rules, AimsBelow, AimsWithin, IsGoing, IsUnderWay}
 use Rattle.router_core.specs.Stands.{HasLeft, OwnsLive}
-use Rattle.router_core.specs.Ties.{Ties}
-use Rattle.router_core.proofs.AimLaws.{below_stays, none_said, within_stays}
+use Rattle.router_core.proofs.AimLaws.{below_stays, none_said}
 use Rattle.router_core.proofs.StageLaws.{begins, decides, deletes_on, draws, drew_nothing, no_requests}
-use Rattle.router_core.proofs.TieLaws.{tie_items, tie_same}
 
 -- ---- the next operation
 
@@ -196,4 +192,3 @@ all_session operation begun (Stage.Over number outcome turn) = (refl, (refl, tt)
 pub begin_marks : (operation : ℕ) (begun : Begun) (stage : Stage) → marks_of (begin_items operation begun stage) ≡ Begin operation begun ∷ []
 begin_marks operation begun (Stage.UnderWay live) = refl
 begin_marks operation begun (Stage.Over number outcome turn) = refl
-

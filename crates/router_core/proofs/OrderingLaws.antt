@@ -1,5 +1,5 @@
 -- What a router keeps goes on by an order that came to what was told.
-use Rattle.std.proofs.Common.{ℕ, ◌+◌, List, [], ◌∷◌, ◌++◌, map, Option, Ok, refl, sym, ◌∙◌, inl, inr, arith}
+use Rattle.std.proofs.Common.{ℕ, List, [], ◌∷◌, ◌++◌, map, Option, Ok, refl, sym, ◌∙◌, inl, inr, arith}
 use Rattle.quorum_op.specs.declared.outcome.Outcome.{Outcome}
 use Rattle.world_model.specs.declared.history.HistoryMark.{HistoryMark}
 use Rattle.world_model.specs.declared.history.HistoryMark.TheVariants.{Ordered}
@@ -10,7 +10,7 @@ use Rattle.world_model.specs.declared.step.Called.{Called}
 use Rattle.world_model.specs.declared.step.Step.{Step}
 use Rattle.world_model.specs.Fabric.{TellsOrder}
 use Rattle.world_model.specs.Orders.{CameTo}
-use Rattle.world_model.specs.Record.{Marked, Took, Record, turns_in}
+use Rattle.world_model.specs.Record.{Marked, Took, Record}
 use Rattle.world_model.specs.Told.{AllNetwork}
 use Rattle.router_core.specs.declared.live.Live.{Live}
 use Rattle.router_core.specs.declared.router.Stage.{Stage}

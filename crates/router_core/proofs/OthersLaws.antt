@@ -1,5 +1,5 @@
 -- What is another operation's leaves what is kept of an operation as it is.
-use Rattle.std.proofs.Common.{◌≡◌, ℕ, ◌^◌, ◌<◌, ◌≤◌, List, [], ◌∷◌, ◌++◌, map, Some, refl, sym, ap, ◌∙◌, subst, inl, inr, arith}
+use Rattle.std.proofs.Common.{◌≡◌, ℕ, ◌^◌, ◌<◌, List, [], ◌∷◌, Some, refl, sym, ap, ◌∙◌, subst, inl, inr}
 use Rattle.operation.specs.declared.sending.Sending.{Sending}
 use Rattle.quorum_op.specs.declared.outcome.Outcome.{Outcome}
 use Rattle.blob_id.specs.declared.blob.Blob.{Blob}
@@ -8,22 +8,19 @@ use Rattle.req_frame.specs.declared.frame.Frame.{Frame}
 use Rattle.world_model.specs.declared.history.Begun.{Begun}
 use Rattle.world_model.specs.declared.history.HistoryMark.TheVariants.{Begin, End}
 use Rattle.world_model.specs.declared.shape.Shape.{Shape}
-use Rattle.world_model.specs.declared.step.Event.{Event}
 use Rattle.world_model.specs.declared.step.Step.{Step}
 use Rattle.world_model.specs.Frames.{frame_in}
 use Rattle.world_model.specs.Notes.{clock_of, events_in, operation_of, router_frame}
-use Rattle.world_model.specs.Record.{Part, Item, Aimed, Decided, Drawn, Given, Marked, Took, Withheld, Record, turns_in}
+use Rattle.world_model.specs.Record.{Part, Item, Aimed, Decided, Drawn, Marked, Took, Withheld, Record, turns_in}
 use Rattle.world_model.specs.Router.{begun_in}
-use Rattle.world_model.specs.Told.{AllNetwork}
 use Rattle.op_table.specs.Apart.{IsApart}
-use Rattle.op_table.specs.Tied.{OwnsCalls}
 use Rattle.op_table.proofs.ApartLaws.{apart_aimed, apart_begun, apart_decided, apart_drawn, apart_ended, apart_refused, apart_sent, apart_withheld, calls_apart}
 use Rattle.router_core.specs.declared.live.Live.{Live}
 use Rattle.router_core.specs.declared.router.Stage.{Stage}
 use Rattle.router_core.specs.Jobs.{Job, Puts, Gets, Deletes, begun_as, piece_for, target_for}
-use Rattle.router_core.specs.Stages.{simple_rules, AimsBelow, AimsWithin, IsDecidedIn, IsGoing}
+use Rattle.router_core.specs.Stages.{simple_rules, AimsBelow, AimsWithin, IsGoing}
 use Rattle.router_core.specs.Fits.{number_of}
-use Rattle.router_core.specs.Stands.{AreOthers, Beside, Counts, EachEnds, EachStage, HasLeft, IsOther, OwnsLive, OwnsStage, RestsStage, StageWaits, Waits}
+use Rattle.router_core.specs.Stands.{AreOthers, Beside, Counts, EachEnds, EachStage, HasLeft, IsOther, OwnsLive, OwnsStage, RestsStage, Waits}
 use Rattle.router_core.proofs.AskLaws.{drawn_later}
 use Rattle.router_core.proofs.StageLaws.{begun_rises, decided_later, deletes_on, over_apart, under_way_apart}
 

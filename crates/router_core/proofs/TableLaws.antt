@@ -1,18 +1,17 @@
 -- The table of the live operations: one of them is taken out, works and is put back, and a further one begins.
-use Rattle.std.proofs.Common.{◌≡◌, ℕ, ◌+◌, ◌^◌, ◌<◌, ◌≤◌, ◌⊎◌, List, [], ◌∷◌, ◌++◌, length, take, drop, set, suc, zero, slice_index_or, Option, Some, None, refl, sym, ap, ◌∙◌, subst, inl, inr, arith}
+use Rattle.std.proofs.Common.{◌≡◌, ℕ, ◌+◌, ◌^◌, ◌<◌, ◌≤◌, List, [], ◌∷◌, ◌++◌, length, take, drop, set, suc, zero, slice_index_or, Option, Some, None, refl, sym, ap, ◌∙◌, subst, inl, inr, arith}
 use Rattle.std.proofs.lemmas.List.{drop-set-lt, drop_more, set_split, take-append-drop, take_more_set}
 use Rattle.blob_id.specs.declared.id.BlobId.{BlobId}
 use Rattle.quorum_op.specs.declared.outcome.Outcome.{Outcome}
 use Rattle.world_model.specs.declared.history.Begun.{Begun}
 use Rattle.world_model.specs.declared.history.HistoryMark.{HistoryMark}
-use Rattle.world_model.specs.declared.history.HistoryMark.TheVariants.{Begin, End}
+use Rattle.world_model.specs.declared.history.HistoryMark.TheVariants.{Begin}
 use Rattle.world_model.specs.declared.shape.Shape.{Shape}
 use Rattle.world_model.specs.declared.step.Called.{Called}
 use Rattle.world_model.specs.Lists.{Has}
 use Rattle.world_model.specs.Ordered.{marks_of}
-use Rattle.world_model.specs.Record.{Item, Top, Decided, Drawn, Marked, Record, turns_in}
+use Rattle.world_model.specs.Record.{Item, Top, Decided, Drawn, Marked, Record}
 use Rattle.world_model.specs.Told.{AllSession}
-use Rattle.world_model.specs.Router.{IsKept, begun_in}
 use Rattle.world_model.proofs.ListLaws.{has_at}
 use Rattle.op_table.specs.declared.heard.Heard.{Heard}
 use Rattle.op_table.specs.Addressed.{heard_by}
@@ -22,7 +21,7 @@ use Rattle.router_core.specs.Beginning.{BeginsAs, BeginsBeside, begin_items, put
 use Rattle.router_core.specs.Fits.{FitStages, Fits, FitsStage, RouterView, number_of}
 use Rattle.router_core.specs.Jobs.{blob_for}
 use Rattle.router_core.specs.Stages.{simple_rules, IsGoing, IsOver}
-use Rattle.router_core.specs.Stands.{AreOthers, At, Beside, Counts, EachEnds, EachStage, HasOver, IsOther, OwnsStage, RestsStage, Stands, among, around, live_in}
+use Rattle.router_core.specs.Stands.{AreOthers, At, Beside, Counts, EachStage, HasOver, IsOther, OwnsStage, RestsStage, Stands, among, around, live_in}
 use Rattle.router_core.specs.Ties.{Ties}
 use Rattle.router_core.specs.Turning.{AllTold, IsTold, IsToldStage}
 use Rattle.router_core.proofs.AimLaws.{within_stays}
@@ -180,10 +179,9 @@ put_begins_beside old id body live low fits begins = λ r c.
     let drawn : Item = Drawn n Top 0 id (blob_for old.clock body) in
     let own = begins r c.going c.aims c.clock_is (let t = c.turns_are in omega (arith, t)) (let b = c.begun_are in omega (arith, b)) in
     let others = below_other old.shape old.begun 1 old.stages low fits in
-    let mid = begun_beside old.shape old.clock old.events old.begun old.turns how old.stages r low others c in
-    (
+    let mid = begun_beside old.shape old.clock old.events old.begun old.turns how old.stages r low others c in (
       beside_stays old.shape old.clock old.events n (around n (old.turns + 1) n old.stages []) drawn (Marked (Begin n how) ∷ r) (alone_other old.begun old.turns old.stages others) (own_drawn n Top 0 id (blob_for old.clock body) (Marked (Begin n how) ∷ r))
-      (record { clock = refl; events = refl; begun = refl; turns = refl; decides = λ other outcome e. absurd (cc e) }) (within_stays drawn (Marked (Begin n how) ∷ r) (λ x p a e. absurd cc) (omega arith) mid.aims) own.under_way.going mid,
+          (record { clock = refl; events = refl; begun = refl; turns = refl; decides = λ other outcome e. absurd (cc e) }) (within_stays drawn (Marked (Begin n how) ∷ r) (λ x p a e. absurd cc) (omega arith) mid.aims) own.under_way.going mid,
       own,
     )
 
@@ -258,7 +256,7 @@ pub fits_settled : (shape : Shape) (begun : ℕ) (items : List Stage) (place : �
 fits_settled shape begun items place old new small split same fits f =
     let g = subst (λ (l : List Stage). FitStages shape begun 1 l) split.whole f in
     let next : place + 1 ≡ suc place = omega arith in
-    subst (λ (l : List Stage). FitStages shape begun 1 l) (sym (set_split items place new small) )
+    subst (λ (l : List Stage). FitStages shape begun 1 l) (sym (set_split items place new small))
     (subst (λ (k : ℕ). FitStages shape begun 1 (take place items ++ new ∷ drop k items)) next (fits_set shape begun (take place items) 1 old new (drop (place + 1) items) same (fits (fits_one shape begun (take place items) 1 old (drop (place + 1) items) g)) g))
 
 -- ---- telling them, one after the other

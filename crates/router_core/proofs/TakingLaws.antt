@@ -1,5 +1,5 @@
 -- Which operation ends first, and that the record goes on by its end.
-use Rattle.std.proofs.Common.{◌≡◌, ◌≢◌, ◌⊎◌, ℕ, ◌+◌, ◌<◌, ◌^◌, ◌≤◌, ◌==◌, nat_lt, Bool, true, false, ◌&&◌, ◌||◌, List, [], ◌∷◌, ◌++◌, length, take, drop, Option, Some, None, IfSome, IsNone, refl, sym, ap, ◌∙◌, subst, inl, inr, arith}
+use Rattle.std.proofs.Common.{◌≡◌, ◌≢◌, ◌⊎◌, ℕ, ◌+◌, ◌<◌, ◌^◌, ◌≤◌, ◌==◌, nat_lt, Bool, true, false, ◌&&◌, ◌||◌, List, [], ◌∷◌, ◌++◌, length, Option, Some, None, IfSome, IsNone, refl, sym, ap, ◌∙◌, subst, inl, inr, arith}
 use Rattle.std.specs.List.{list_all}
 use Rattle.std.proofs.lemmas.Bool.Decides.{nat_tests}
 use Rattle.std.proofs.lemmas.Grind.{common_steps}
@@ -13,7 +13,7 @@ use Rattle.world_model.specs.Lists.{Earlier, Has}
 use Rattle.world_model.specs.Record.{Decided, Marked, Record, turns_in}
 use Rattle.world_model.specs.Router.{GoesFirst, IsKept}
 use Rattle.world_model.proofs.CellLaws.{number_true}
-use Rattle.world_model.proofs.ListLaws.{has_at, head_has}
+use Rattle.world_model.proofs.ListLaws.{head_has}
 use Rattle.router_core.specs.declared.ending.Ended.{Ended}
 use Rattle.router_core.specs.declared.live.Live.{Live}
 use Rattle.router_core.specs.declared.router.Stage.{Stage}
@@ -154,9 +154,9 @@ over_since : (shape : Shape) (r : Record) (stages : List Stage) (operation : ℕ
 over_since shape r [] operation outcome done rest not h = absurd h
 over_since shape r (stage ∷ stages) operation outcome done rest not h = elim h [
   | inl e ↦ (
-    let own : RestsStage shape r (Stage.Over operation outcome e.0) = subst (λ (s : Stage). RestsStage shape r s) e.1 rest.0 in
-    (e.0, own.0.since, subst (λ (s : Stage). IsNotBefore done.turn done.operation s) e.1 not.0)
-  )
+      let own : RestsStage shape r (Stage.Over operation outcome e.0) = subst (λ (s : Stage). RestsStage shape r s) e.1 rest.0 in
+      (e.0, own.0.since, subst (λ (s : Stage). IsNotBefore done.turn done.operation s) e.1 not.0)
+      )
   | inr m ↦ over_since shape r stages operation outcome done rest.1 not.1 m
 ]
 

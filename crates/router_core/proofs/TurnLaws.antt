@@ -13,7 +13,7 @@ use Rattle.world_model.specs.declared.step.Step.{Step}
 use Rattle.world_model.specs.Fabric.{Gave, Tells}
 use Rattle.world_model.specs.Lists.{Has}
 use Rattle.world_model.specs.Notes.{clock_of, events_in}
-use Rattle.world_model.specs.Record.{Item, Decided, Given, Took, Record, turns_in}
+use Rattle.world_model.specs.Record.{Item, Decided, Given, Took, Record}
 use Rattle.world_model.specs.Told.{AllNetwork}
 use Rattle.op_table.specs.declared.heard.Heard.{Heard}
 use Rattle.op_table.specs.Addressed.{heard_by}
@@ -23,7 +23,7 @@ use Rattle.router_core.specs.declared.router.Stage.{Stage}
 use Rattle.router_core.specs.Fits.{RouterView}
 use Rattle.router_core.specs.Stages.{simple_rules, IsDecidedIn}
 use Rattle.router_core.specs.Removals.{DeletesDrawn}
-use Rattle.router_core.specs.Stands.{Beside, Counts, EachStage, HasLeft, HasOver, Owns, OwnsLive, OwnsStage, RestsStage, Stands, among}
+use Rattle.router_core.specs.Stands.{Counts, EachStage, HasLeft, HasOver, Owns, OwnsLive, OwnsStage, RestsStage, Stands, among}
 use Rattle.router_core.specs.Ties.{Ties}
 use Rattle.router_core.specs.Turning.{AllTold, IsTold, IsToldStage, clock_after}
 use Rattle.router_core.proofs.AimLaws.{within_stays, within_took}

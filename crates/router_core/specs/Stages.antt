@@ -2,12 +2,11 @@
 use Rattle.std.specs.Prelude.{◌≡◌, ℕ, ◌+◌, ◌*◌, ◌^◌, ◌<◌, ◌≤◌, false, ◌∷◌}
 use Rattle.quorum_op.specs.declared.outcome.Outcome.{Outcome}
 use Rattle.world_model.specs.declared.history.Begun.{Begun}
-use Rattle.world_model.specs.declared.history.HistoryMark.TheVariants.{End}
 use Rattle.world_model.specs.declared.shape.Shape.{Shape}
 use Rattle.world_model.specs.Lists.{Earlier, Has}
 use Rattle.world_model.specs.Notes.{Asked, asked, is_drained, operation_of}
 use Rattle.world_model.specs.Outcomes.{BeganAt}
-use Rattle.world_model.specs.Record.{Part, Marked, Aimed, Decided, Record, turns_in}
+use Rattle.world_model.specs.Record.{Part, Aimed, Decided, Record, turns_in}
 use Rattle.world_model.specs.Router.{IsKept, IsDone, HasEnded, begun_in}
 use Rattle.world_model.specs.Rules.{Rules, in_turn}
 use Rattle.router_core.specs.Removals.{DeletesWhatFailed}

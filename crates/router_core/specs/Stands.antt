@@ -201,4 +201,3 @@ after_settling shape record' live (Some outcome) = IsSettled shape record' live 
 abbrev pub after_leaving : Shape → Record → Live → Option Outcome → Type 0
 after_leaving shape record' live None = Waits shape record' live
 after_leaving shape record' live (Some outcome) = GivesAllUp shape record' live outcome []
-

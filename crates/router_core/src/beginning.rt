@@ -200,13 +200,7 @@ impl Router {
 }
 
 /// Where a get begins, in this turn.
-fn get_stage(
-    alloc: Global,
-    shape: &Shape,
-    turn: u64,
-    operation: u32,
-    id: Option<BlobId>,
-) -> Stage
+fn get_stage(alloc: Global, shape: &Shape, turn: u64, operation: u32, id: Option<BlobId>) -> Stage
     requires shape { IsShape shape.now }
     requires number { operation < 2 ^ 31 }
     requires whole { IfSome id (λ id. is_composite id ≡ false) }

@@ -214,7 +214,9 @@ fn end_of(stage: Stage) -> Option<Ended>
 {
     match stage {
         Stage::Over {
-            operation, outcome, ..
+            operation,
+            outcome,
+            ..
         } => Some(Ended { operation, outcome }),
         Stage::UnderWay(_) => None,
     }

@@ -38,7 +38,9 @@ fn sooner(first: Option<Done>, place: usize, stage: &Stage) -> Option<Done>
     match stage {
         Stage::UnderWay(_) => first,
         Stage::Over {
-            operation, turn, ..
+            operation,
+            turn,
+            ..
         } => {
             let done = Done {
                 place,

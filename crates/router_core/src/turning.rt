@@ -49,13 +49,7 @@ impl Router {
     }
 
     /// Takes an event by what was heard of it, which is then so many, in this turn.
-    fn take(
-        &mut self,
-        alloc: Global,
-        heard: Heard,
-        events: u64,
-        turn: u64,
-    ) -> Result<(), Memory>
+    fn take(&mut self, alloc: Global, heard: Heard, events: u64, turn: u64) -> Result<(), Memory>
         requires next { events ≡ self.old.events + 1 }
         requires turn { turn ≡ self.old.turns + 1 }
         ensures told { OnOk result (AllTold heard self.old.events self.old.stages self.new.stages) }

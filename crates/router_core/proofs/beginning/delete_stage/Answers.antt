@@ -1,4 +1,4 @@
-use Rattle.std.proofs.Common.{[], ◌∷◌, Option, refl, sym, subst, arith}
+use Rattle.std.proofs.Common.{[], ◌∷◌, Option, refl, sym, subst}
 use Rattle.blob_id.specs.declared.id.BlobId.{BlobId}
 use Rattle.world_model.specs.declared.history.Begun.{Begun}
 use Rattle.world_model.specs.declared.history.HistoryMark.TheVariants.{Begin}

@@ -1,4 +1,4 @@
-use Rattle.std.proofs.Common.{List, take}
+use Rattle.std.proofs.Common.{take}
 use Rattle.router_core.specs.Ending.{IsFirst}
 use Rattle.router_core.proofs.taking.first_over.Given as goal
 
