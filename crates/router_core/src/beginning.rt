@@ -1,6 +1,7 @@
 //! How operations begin.
 
 ghost use Rattle.std.specs.Prelude.{◌≡◌, ℕ, ◌+◌, ◌++◌, ◌%◌, ◌^◌, ◌<◌, ◌≤◌, List, [], ◌∷◌, length, true, false, Option, Some, None, OnOk, OnErr, IfOk, IfErr, IfSome};
+ghost use Rattle.std.specs.Result.{is_ok};
 ghost use Rattle.blob_id.specs.declared.id.BlobId.{BlobId};
 ghost use Rattle.blob_id.specs.Id.{partition_of};
 ghost use Rattle.world_model.specs.declared.history.Begun.{Begun};
@@ -8,7 +9,7 @@ ghost use Rattle.world_model.specs.declared.history.HistoryMark.{HistoryMark};
 ghost use Rattle.world_model.specs.declared.history.HistoryMark.TheVariants.{Begin, Drew};
 ghost use Rattle.world_model.specs.declared.shape.Shape.{Shape};
 ghost use Rattle.world_model.specs.declared.step.Called.{Called};
-ghost use Rattle.world_model.specs.Fabric.{KeepsRun};
+ghost use Rattle.world_model.specs.Advancing.{Advances};
 ghost use Rattle.world_model.specs.Ordered.{marks_of};
 ghost use Rattle.world_model.specs.Pieces.{is_chunk, is_composite, is_simple};
 ghost use Rattle.world_model.specs.Record.{Record};
@@ -49,11 +50,7 @@ impl Router {
         ensures begun { OnOk result (self.new.begun ≡ self.old.begun + 1) }
         ensures live { OnOk result (live_in self.new.stages ≡ live_in self.old.stages ++ (self.old.begun + 1) ∷ []) }
         ensures shape { self.new.shape ≡ self.old.shape }
-        ensures opened { F.opened fabric.new ≡ F.opened fabric.old }
-        ensures later { F.faults fabric.old ≤ F.faults fabric.new }
-        ensures run { (cluster : Shape) (place : List ℕ) → KeepsRun (F.runs fabric.old cluster place) (F.runs fabric.new cluster place) }
-        ensures goes { OnOk result (F.goes fabric.old fabric.new) }
-        ensures falls { F.falls fabric.old fabric.new }
+        ensures net { Advances F.faults F.opened F.runs F.advances fabric.old fabric.new (is_ok result) }
     {
         let turn = self.next_turn()?;
         let stage = Stage::UnderWay(Live::put(
@@ -106,11 +103,7 @@ impl Router {
         ensures begun { OnOk result (self.new.begun ≡ self.old.begun + 1) }
         ensures live { OnOk result (live_in self.new.stages ≡ live_in self.old.stages ++ (self.old.begun + 1) ∷ []) }
         ensures shape { self.new.shape ≡ self.old.shape }
-        ensures opened { F.opened fabric.new ≡ F.opened fabric.old }
-        ensures later { F.faults fabric.old ≤ F.faults fabric.new }
-        ensures run { (cluster : Shape) (place : List ℕ) → KeepsRun (F.runs fabric.old cluster place) (F.runs fabric.new cluster place) }
-        ensures goes { OnOk result (F.goes fabric.old fabric.new) }
-        ensures falls { F.falls fabric.old fabric.new }
+        ensures net { Advances F.faults F.opened F.runs F.advances fabric.old fabric.new (is_ok result) }
     {
         let turn = self.next_turn()?;
         let stage = get_stage(alloc, &self.shape, turn, self.begun + 1, id);
@@ -134,11 +127,7 @@ impl Router {
         ensures begun { OnOk result (self.new.begun ≡ self.old.begun + 1) }
         ensures live { OnOk result (live_in self.new.stages ≡ live_in self.old.stages ++ (self.old.begun + 1) ∷ []) }
         ensures shape { self.new.shape ≡ self.old.shape }
-        ensures opened { F.opened fabric.new ≡ F.opened fabric.old }
-        ensures later { F.faults fabric.old ≤ F.faults fabric.new }
-        ensures run { (cluster : Shape) (place : List ℕ) → KeepsRun (F.runs fabric.old cluster place) (F.runs fabric.new cluster place) }
-        ensures goes { OnOk result (F.goes fabric.old fabric.new) }
-        ensures falls { F.falls fabric.old fabric.new }
+        ensures net { Advances F.faults F.opened F.runs F.advances fabric.old fabric.new (is_ok result) }
     {
         let turn = self.next_turn()?;
         let stage = delete_stage(alloc, &self.shape, self.clock, turn, self.begun + 1, id);
@@ -163,11 +152,7 @@ impl Router {
         ensures begun { OnOk result (self.new.begun ≡ self.old.begun + 1) }
         ensures live { OnOk result (live_in self.new.stages ≡ live_in self.old.stages ++ (self.old.begun + 1) ∷ []) }
         ensures shape { self.new.shape ≡ self.old.shape }
-        ensures opened { F.opened fabric.new ≡ F.opened fabric.old }
-        ensures later { F.faults fabric.old ≤ F.faults fabric.new }
-        ensures run { (cluster : Shape) (place : List ℕ) → KeepsRun (F.runs fabric.old cluster place) (F.runs fabric.new cluster place) }
-        ensures goes { OnOk result (F.goes fabric.old fabric.new) }
-        ensures falls { F.falls fabric.old fabric.new }
+        ensures net { Advances F.faults F.opened F.runs F.advances fabric.old fabric.new (is_ok result) }
     {
         let mut stage = stage;
         settle_stage(

@@ -1,12 +1,13 @@
 //! How operations end.
 
 ghost use Rattle.std.specs.Prelude.{◌≡◌, ◌≢◌, ℕ, ◌^◌, ◌<◌, ◌≤◌, ◌++◌, List, [], Option, true, Some, OnOk, IfOk, IfSome, IsNone};
+ghost use Rattle.std.specs.Result.{is_ok};
 ghost use Rattle.std.specs.List.{list_all};
 ghost use Rattle.quorum_op.specs.declared.outcome.Outcome.TheVariants as outcome;
 ghost use Rattle.world_model.specs.declared.history.HistoryMark.{HistoryMark};
 ghost use Rattle.world_model.specs.declared.shape.Shape.{Shape};
 ghost use Rattle.world_model.specs.declared.step.Called.{Called};
-ghost use Rattle.world_model.specs.Fabric.{KeepsRun};
+ghost use Rattle.world_model.specs.Advancing.{Advances};
 ghost use Rattle.world_model.specs.Shape.{IsShape};
 ghost use Rattle.router_core.specs.declared.live.Live.{Live};
 ghost use Rattle.router_core.specs.declared.router.Stage.TheVariants as variant;
@@ -48,11 +49,7 @@ impl Router {
         ensures answer { IfOk result (λ ended. IfSome ended (λ e. IsAnswer self.old.shape e.outcome)) }
         ensures begun { self.new.begun ≡ self.old.begun }
         ensures shape { self.new.shape ≡ self.old.shape }
-        ensures opened { F.opened fabric.new ≡ F.opened fabric.old }
-        ensures later { F.faults fabric.old ≤ F.faults fabric.new }
-        ensures run { (cluster : Shape) (place : List ℕ) → KeepsRun (F.runs fabric.old cluster place) (F.runs fabric.new cluster place) }
-        ensures goes { OnOk result (F.goes fabric.old fabric.new) }
-        ensures falls { F.falls fabric.old fabric.new }
+        ensures net { Advances F.faults F.opened F.runs F.advances fabric.old fabric.new (is_ok result) }
     {
         self.run(alloc, fabric)?;
         Ok(self.take_done())
@@ -79,11 +76,7 @@ impl Router {
         ensures live { live_in self.new.stages ≡ live_in self.old.stages }
         ensures begun { self.new.begun ≡ self.old.begun }
         ensures shape { self.new.shape ≡ self.old.shape }
-        ensures opened { F.opened fabric.new ≡ F.opened fabric.old }
-        ensures later { F.faults fabric.old ≤ F.faults fabric.new }
-        ensures run { (cluster : Shape) (place : List ℕ) → KeepsRun (F.runs fabric.old cluster place) (F.runs fabric.new cluster place) }
-        ensures goes { OnOk result (F.goes fabric.old fabric.new) }
-        ensures falls { F.falls fabric.old fabric.new }
+        ensures net { Advances F.faults F.opened F.runs F.advances fabric.old fabric.new (is_ok result) }
     {
         settle_all(
             &mut self.stages,
@@ -113,11 +106,7 @@ pub(crate) fn settle_all<F: Fabric>(
     ensures ties { OnOk result ((begun : ℕ) (marks : List HistoryMark) → Ties (Counts shape.now clock events (among begun turn [] stages.old.items)) (F.told fabric.old) marks → Ties (Counts shape.now clock events (among begun turn stages.new.items [])) (F.told fabric.new) marks) }
     ensures fits { (begun : ℕ) → FitStages shape.now begun 1 stages.old.items → FitStages shape.now begun 1 stages.new.items }
     ensures live { live_in stages.new.items ≡ live_in stages.old.items }
-    ensures opened { F.opened fabric.new ≡ F.opened fabric.old }
-    ensures later { F.faults fabric.old ≤ F.faults fabric.new }
-    ensures run { (cluster : Shape) (place : List ℕ) → KeepsRun (F.runs fabric.old cluster place) (F.runs fabric.new cluster place) }
-    ensures goes { OnOk result (F.goes fabric.old fabric.new) }
-    ensures falls { F.falls fabric.old fabric.new }
+    ensures net { Advances F.faults F.opened F.runs F.advances fabric.old fabric.new (is_ok result) }
 {
     for place in 0..stages.len() {
         let stage = &mut stages[place];
@@ -142,11 +131,7 @@ pub(crate) fn settle_stage<F: Fabric>(
     ensures ties { OnOk result ((beside : Beside) (marks : List HistoryMark) → beside.turns ≡ turn → AreOthers (number_of stage.old) beside → Ties (At shape.now (λ r. OwnsStage shape.now r stage.old) clock events beside) (F.told fabric.old) marks → Ties (At shape.now (λ r. RestsStage shape.now r stage.new) clock events beside) (F.told fabric.new) marks) }
     ensures fits { (begun : ℕ) → FitsStage shape.now begun stage.old → FitsStage shape.now begun stage.new }
     ensures number { number_of stage.new ≡ number_of stage.old }
-    ensures opened { F.opened fabric.new ≡ F.opened fabric.old }
-    ensures later { F.faults fabric.old ≤ F.faults fabric.new }
-    ensures run { (cluster : Shape) (place : List ℕ) → KeepsRun (F.runs fabric.old cluster place) (F.runs fabric.new cluster place) }
-    ensures goes { OnOk result (F.goes fabric.old fabric.new) }
-    ensures falls { F.falls fabric.old fabric.new }
+    ensures net { Advances F.faults F.opened F.runs F.advances fabric.old fabric.new (is_ok result) }
 {
     match stage {
         Stage::UnderWay(live) => {
@@ -183,11 +168,7 @@ fn settle_live<F: Fabric>(
     ensures answer { IfOk result (λ over. IfSome over (IsAnswer shape.now)) }
     ensures fits { FitsLive shape.now live.new }
     ensures operation { live.new.operation ≡ live.old.operation }
-    ensures opened { F.opened fabric.new ≡ F.opened fabric.old }
-    ensures later { F.faults fabric.old ≤ F.faults fabric.new }
-    ensures run { (cluster : Shape) (place : List ℕ) → KeepsRun (F.runs fabric.old cluster place) (F.runs fabric.new cluster place) }
-    ensures goes { OnOk result (F.goes fabric.old fabric.new) }
-    ensures falls { F.falls fabric.old fabric.new }
+    ensures net { Advances F.faults F.opened F.runs F.advances fabric.old fabric.new (is_ok result) }
 {
     match live.settle(alloc, shape, clock, events, fabric)? {
         Some(outcome) => {
