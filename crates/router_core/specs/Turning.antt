@@ -32,12 +32,6 @@ AllTold heard events [] [] = Unit {0}
 AllTold heard events (old ∷ olds) (new ∷ news) = IsToldStage heard events old new × AllTold heard events olds news
 AllTold heard events _ _ = ⊥
 
--- what every operation hears of it
-abbrev pub event_in : Heard → Heard
-event_in (Heard.Answer node correlation reply) = Heard.Quiet
-event_in (Heard.Stray node correlation) = Heard.Quiet
-event_in heard = heard
-
 -- a router that counts one more event or script line
 abbrev pub one_turn_on : RouterView → RouterView
 one_turn_on router = record { shape = router.shape; clock = router.clock; events = router.events; begun = router.begun; turns = router.turns + 1; stages = router.stages }

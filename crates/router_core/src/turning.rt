@@ -6,9 +6,7 @@ ghost use Rattle.std.specs.List.{list_all};
 ghost use Rattle.world_model.specs.declared.history.HistoryMark.{HistoryMark};
 ghost use Rattle.world_model.specs.declared.shape.Shape.{Shape};
 ghost use Rattle.world_model.specs.Advancing.{Advances};
-ghost use Rattle.op_table.specs.declared.heard.Heard.TheVariants as variant;
 ghost use Rattle.op_table.specs.Addressed.{heard_by};
-ghost use Rattle.router_core.specs.Turning.{event_in};
 ghost use Rattle.router_core.specs.Fits.{FitStages, FitsStage, number_of};
 ghost use Rattle.router_core.specs.Stands.{Stands, is_under_way, live_in};
 ghost use Rattle.router_core.specs.Ties.{Ties};
@@ -16,9 +14,8 @@ ghost use Rattle.router_core.specs.Turning.{clock_after, AllTold, IsToldStage};
 
 use crate::router::{Router, Stage};
 use blob_id::Memory;
-use op_table::{Heard, hear};
+use op_table::{Heard, hear, take_for};
 use std::alloc::Global;
-use std::mem;
 use world_model::Fabric;
 
 impl Router {
@@ -125,43 +122,6 @@ fn tell_stage(
             Ok(())
         }
         Stage::Over { .. } => Ok(()),
-    }
-}
-
-/// What an operation hears. A reply to it is taken out.
-fn take_for(heard: &mut Heard, operation: u32) -> Heard
-    ensures mine { result ≡ heard_by operation heard.old }
-    ensures others { (other : ℕ) → (operation ≡ other → ⊥) → heard_by other heard.new ≡ heard_by other heard.old }
-{
-    if is_for(heard, operation) {
-        mem::replace(heard, Heard::Quiet)
-    } else {
-        event_of(heard)
-    }
-}
-
-/// What was heard is for an operation alone.
-fn is_for(heard: &Heard, operation: u32) -> bool
-    ensures mine { result ≡ true → heard_by operation heard.now ≡ heard.now }
-    ensures others { result ≡ true → (other : ℕ) → (operation ≡ other → ⊥) → heard_by other heard.now ≡ variant.Quiet }
-    ensures none { result ≡ false → heard_by operation heard.now ≡ event_in heard.now }
-{
-    match heard {
-        Heard::Answer { correlation, .. } | Heard::Stray { correlation, .. } => {
-            *correlation / (1 << 32) == u64::from(operation)
-        }
-        Heard::Broken { .. } | Heard::Now { .. } | Heard::Quiet => false,
-    }
-}
-
-/// What all operations hear: a reply is just an event.
-fn event_of(heard: &Heard) -> Heard
-    ensures { result ≡ event_in heard.now }
-{
-    match heard {
-        Heard::Broken { node } => Heard::Broken { node: *node },
-        Heard::Now { ms } => Heard::Now { ms: *ms },
-        Heard::Answer { .. } | Heard::Stray { .. } | Heard::Quiet => Heard::Quiet,
     }
 }
 
