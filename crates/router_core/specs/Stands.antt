@@ -124,6 +124,11 @@ abbrev pub HasOver : List Stage → ℕ → Outcome → Type 0
 HasOver [] operation outcome = ⊥
 HasOver (stage ∷ stages) operation outcome = ((turn : ℕ) × (stage ≡ Stage.Over operation outcome turn)) ⊎ HasOver stages operation outcome
 
+-- none is live
+abbrev pub is_idle : List ℕ → Bool
+is_idle [] = true
+is_idle _ = false
+
 -- What a router keeps beside the operation that it works at: how many began, how many events and script lines there were, which one it works
 -- at, and the others, those at rest and those that may want more.
 pub record Beside : Type 0 where

@@ -1,6 +1,6 @@
 use Rattle.std.proofs.Common.{◌∙◌, ◌++◌, ◌∷◌, ap, sym, subst, Err}
 use Rattle.router_core.specs.Fits.{RouterView}
-use Rattle.router_core.specs.Stands.{is_idle}
+use Rattle.router_core.specs.Stands.{is_idle, live_in}
 use Rattle.world_model.specs.declared.history.HistoryMark.TheVariants.{Ordered}
 use Rattle.front_end.specs.Session.{StandsAt, ties_of}
 use Rattle.front_end.proofs.KeepLemmas.{keeps_router, mark_not_failed, on_ok_both, on_ok_map}
@@ -34,7 +34,7 @@ returns-in-Err-Failed-clause-carried g c =
     let tied = subst (λ t. StandsAt self.router.shape lines state (ties_of self.router t) first words) (sym same.1) stands in
     let stands' = subst (λ (r : RouterView). StandsAt self.router.shape lines state (ties_of r now) first words) (sym same.0 ∙ sym e.router) tied in
     failed_on self.router.shape line lines state new (ties_of new.router now) first words self.tags c.args.order c.args.out.now.items c.add-in-Err-Failed.new.out.items k.tags asks c.requires.there stands'
-    (becomes state (keeps_router self c.order.new.self state (ap (λ (r : RouterView). is_idle r.stage) same.0) k)) written)
+    (becomes state (keeps_router self c.order.new.self state (ap (λ (r : RouterView). is_idle (live_in r.stages)) same.0) k)) written)
     e.state e.told
 
 pub returns-in-Ok-clause-failed : goal.returns-in-Ok-clause-failed
