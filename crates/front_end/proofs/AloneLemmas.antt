@@ -1,5 +1,5 @@
 -- A session has one operation at a time.
-use Rattle.std.proofs.Common.{◌≡◌, ℕ, List, [], ◌∷◌, ◌++◌, length, ◌<◌, Bool, true, false, Option, None, Some, IsNone, refl, sym, ap, ◌∙◌, subst, arith}
+use Rattle.std.proofs.Common.{◌≡◌, ℕ, List, [], ◌∷◌, ◌++◌, length, ◌<◌, true, false, refl, sym, ap, ◌∙◌, subst, arith}
 use Rattle.router_core.specs.Ending.{IsTakenOut}
 use Rattle.router_core.specs.Stands.{is_idle}
 use Rattle.front_end.specs.Session.{IsAlone}

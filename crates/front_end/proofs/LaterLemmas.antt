@@ -1,5 +1,5 @@
 -- Acts on a network add to the calls that it told.
-use Rattle.std.proofs.Common.{◌≡◌, ◌∙◌, ◌++◌, ◌∷◌, ℕ, Bool, true, false, cond, List, [], None, Some, refl, sym, ap, append_assoc}
+use Rattle.std.proofs.Common.{◌≡◌, ◌∙◌, ◌++◌, ◌∷◌, ℕ, Bool, true, false, cond, List, [], refl, sym, ap, append_assoc}
 use Rattle.mem_fabric.specs.Network.{Network, moved, after_sent, after_steps, is_stopped}
 use Rattle.mem_fabric.specs.Past.{order_steps}
 use Rattle.mem_fabric.specs.Played.{Act, Opens, Sends, Orders, Gives, Moves, Fails, acted, all_acted}

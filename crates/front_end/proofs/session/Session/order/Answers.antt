@@ -18,7 +18,7 @@ returns-in-Ok-clause-carried g c =
     (λ becomes written. λ line words asks lines state first k stands number.
     ordered_on self.router.shape line lines state new tie (ties_of new.router now) first words self.tags c.args.order c.in-Ok.told c.args.out.now.items c.add.new.out.items k.tags asks c.requires.there stands
     (λ marks tied. subst (λ (r : RouterView). ties_of r now (Ordered c.args.order c.in-Ok.told ∷ marks)) (sym c.add.ensures.router) (e.ties marks tied))
-    (becomes state (keeps_router self c.order.new.self state (e.idle (λ q. cc)) k)) written)
+    (becomes state (keeps_router self c.order.new.self state (ap is_idle (e.live (λ q. cc))) k)) written)
     c.add.ensures.state c.add.ensures.told
 
 pub returns-in-Err-Failed-clause-carried : goal.returns-in-Err-Failed-clause-carried
