@@ -6,7 +6,7 @@ ghost use Rattle.outside.specs.Causes.{Rose};
 ghost use Rattle.world_model.specs.declared.shape.Shape.{Shape};
 ghost use Rattle.world_model.specs.Advancing.{Advances};
 ghost use Rattle.world_model.specs.Shape.{IsShape};
-ghost use Rattle.router_core.specs.Stands.{Stands, is_idle};
+ghost use Rattle.router_core.specs.Stands.{Stands, is_idle, live_in};
 ghost use Rattle.front_end.specs.declared.script.Command.TheVariants.{End as TheEnd};
 ghost use Rattle.front_end.specs.Script.{command_of};
 ghost use Rattle.front_end.specs.Session.{IsReady, ties_of};

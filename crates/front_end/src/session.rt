@@ -18,7 +18,7 @@ ghost use Rattle.front_end.specs.declared.history.Entry.TheVariants.{Mark, Bad};
 ghost use Rattle.front_end.specs.declared.script.Command.TheVariants.{End as TheEnd};
 ghost use Rattle.front_end.specs.Outline.{outline_begun, outline_entry};
 ghost use Rattle.front_end.specs.Script.{command_of, tag_number};
-ghost use Rattle.router_core.specs.Stands.{Stands, is_idle};
+ghost use Rattle.router_core.specs.Stands.{Stands, is_idle, live_in};
 ghost use Rattle.front_end.specs.Transcript.{entry_line};
 ghost use Rattle.front_end.specs.Outline.{IsPlain};
 ghost use Rattle.front_end.specs.Past.{answer_in, is_to_node, meant_by, named_by};
@@ -68,7 +68,7 @@ impl Session {
             settled: Listed::new(alloc),
             later: Listed::new(alloc),
             answers: Vec::new(alloc),
-            router: Router::new(shape),
+            router: Router::new(alloc, shape),
         }
     }
 
@@ -82,7 +82,7 @@ impl Session {
         requires ready { IsReady self.old }
         requires open { F.opened fabric.old ≡ Some self.old.router.shape }
         ensures finished { OnOk result (Finishes self.old self.new (ties_of self.old.router (F.told fabric.old)) (ties_of self.new.router (F.told fabric.new)) out.old.items out.new.items) }
-        ensures idle { OnOk result (is_idle self.new.router.stage ≡ true) }
+        ensures idle { OnOk result (is_idle (live_in self.new.router.stages) ≡ true) }
         ensures lines { OnOk result (self.new.lines ≡ self.old.lines) }
         ensures tags { OnOk result (self.new.tags ≡ self.old.tags) }
         ensures ready { OnOk result (IsReady self.new) }
@@ -205,7 +205,7 @@ impl Session {
         out: &mut Vec<u8>,
     ) -> Result<(), Memory>
         requires begun { self.old.router.begun + 1 ≡ length self.old.tags }
-        requires idle { is_idle self.old.router.stage ≡ true }
+        requires idle { is_idle (live_in self.old.router.stages) ≡ true }
         requires number { length self.old.tags < 2 ^ 31 }
         requires limit { length body ≤ 65536 }
         requires chunk { self.old.router.shape.chunk ≡ 65536 }
@@ -239,7 +239,7 @@ impl Session {
         out: &mut Vec<u8>,
     ) -> Result<(), Memory>
         requires begun { self.old.router.begun + 1 ≡ length self.old.tags }
-        requires idle { is_idle self.old.router.stage ≡ true }
+        requires idle { is_idle (live_in self.old.router.stages) ≡ true }
         requires number { length self.old.tags < 2 ^ 31 }
         requires chunk { self.old.router.shape.chunk ≡ 65536 }
         requires few { self.old.router.shape.partitions ≤ 64 }
@@ -254,7 +254,7 @@ impl Session {
         ensures net { Advances F.faults F.opened F.runs F.advances fabric.old fabric.new (is_ok result) }
     {
         if body.len() > self.router.limit() as usize {
-            self.router.put_too_large(body.len() as u64);
+            self.router.put_too_large(body.len() as u64)?;
             return Ok(());
         }
         self.store(alloc, body, random, fabric, out)?;

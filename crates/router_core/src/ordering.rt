@@ -1,14 +1,15 @@
 //! Orders to the network.
 
-ghost use Rattle.std.specs.Prelude.{◌≡◌, List, ◌∷◌, Some, IfOk, IfSome, IsSome, IsNone, OnOk};
+ghost use Rattle.std.specs.Prelude.{◌≡◌, List, ◌∷◌, Some, IfOk, IfSome, IsSome, IsNone, OnOk, OnErr};
 ghost use Rattle.std.specs.Result.{is_ok};
 ghost use Rattle.outside.specs.Causes.{Rose};
 ghost use Rattle.world_model.specs.declared.history.HistoryMark.{HistoryMark};
 ghost use Rattle.world_model.specs.declared.history.HistoryMark.TheVariants.{Ordered};
 ghost use Rattle.world_model.specs.Advancing.{Advances};
 ghost use Rattle.world_model.specs.Fabric.{Awaits, TakesOrder};
-ghost use Rattle.router_core.specs.Stands.{Stands, is_idle};
+ghost use Rattle.router_core.specs.Stands.{Stands, live_in};
 ghost use Rattle.router_core.specs.Ties.{Ties};
+ghost use Rattle.router_core.specs.Turning.{one_turn_on};
 
 use crate::router::Router;
 use blob_id::Memory;
@@ -16,7 +17,7 @@ use std::alloc::Global;
 use world_model::{Fabric, Order, SendFault, Told};
 
 impl Router {
-    /// Gives the network an order, and takes the events that are queued then, so that an operation under way goes on. None where the
+    /// Gives the network an order, and takes the events that are queued then, so that the operations under way go on. None where the
     /// network refused it, which leaves all as it was. After an error the order may have been carried out.
     pub fn order<F: Fabric>(
         &mut self,
@@ -31,14 +32,14 @@ impl Router {
         ensures taken { IfOk result (λ answer. IsSome answer → Awaits (F.told fabric.new) 0) }
         ensures failed { IfOk result (λ answer. IsNone answer → (self.new ≡ self.old) × (F.told fabric.new ≡ F.told fabric.old)) }
         ensures cause { IfOk result (λ answer. IsNone answer → Rose (F.faults fabric.old) (F.faults fabric.new)) }
-        ensures idle { OnOk result (is_idle self.new.stage ≡ is_idle self.old.stage) }
+        ensures live { OnOk result (live_in self.new.stages ≡ live_in self.old.stages) }
         ensures begun { self.new.begun ≡ self.old.begun }
         ensures shape { self.new.shape ≡ self.old.shape }
         ensures net { Advances F.faults F.opened F.runs F.advances fabric.old fabric.new (is_ok result) }
     {
         match fabric.admin(order) {
             Ok(told) => {
-                self.take_queued(alloc, fabric)?;
+                self.go_on(alloc, fabric)?;
                 Ok(Some(told))
             }
             Err(SendFault::Failed) => Ok(None),
@@ -46,12 +47,36 @@ impl Router {
         }
     }
 
+    /// Counts the order, and takes the events that are queued behind it.
+    fn go_on<F: Fabric>(&mut self, alloc: Global, fabric: &mut F) -> Result<(), Memory>
+        requires open { F.opened fabric.old ≡ Some self.old.shape }
+        ensures ties { OnOk result ((marks : List HistoryMark) → Ties (Stands (one_turn_on self.old)) (F.told fabric.old) marks → Ties (Stands self.new) (F.told fabric.new) marks) }
+        ensures taken { OnOk result (Awaits (F.told fabric.new) 0) }
+        ensures live { OnOk result (live_in self.new.stages ≡ live_in self.old.stages) }
+        ensures begun { self.new.begun ≡ self.old.begun }
+        ensures shape { self.new.shape ≡ self.old.shape }
+        ensures net { Advances F.faults F.opened F.runs F.advances fabric.old fabric.new (is_ok result) }
+    {
+        self.turn_on()?;
+        self.take_queued(alloc, fabric)?;
+        Ok(())
+    }
+
+    /// Counts one more turn. After `Memory` the count is full, and stays.
+    fn turn_on(&mut self) -> Result<(), Memory>
+        ensures on { OnOk result (self.new ≡ one_turn_on self.old) }
+        ensures same { OnErr result (self.new ≡ self.old) }
+    {
+        self.turns = self.next_turn()?;
+        Ok(())
+    }
+
     /// Takes events until none is queued. Each turn counts one more event, so it returns at the latest where the count is full.
     fn take_queued<F: Fabric>(&mut self, alloc: Global, fabric: &mut F) -> Result<(), Memory>
         requires open { F.opened fabric.old ≡ Some self.old.shape }
         ensures ties { OnOk result ((marks : List HistoryMark) → Ties (Stands self.old) (F.told fabric.old) marks → Ties (Stands self.new) (F.told fabric.new) marks) }
         ensures taken { OnOk result (Awaits (F.told fabric.new) 0) }
-        ensures idle { OnOk result (is_idle self.new.stage ≡ is_idle self.old.stage) }
+        ensures live { OnOk result (live_in self.new.stages ≡ live_in self.old.stages) }
         ensures begun { self.new.begun ≡ self.old.begun }
         ensures shape { self.new.shape ≡ self.old.shape }
         ensures net { Advances F.faults F.opened F.runs F.advances fabric.old fabric.new (is_ok result) }

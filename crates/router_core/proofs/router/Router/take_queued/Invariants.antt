@@ -1,7 +1,7 @@
 use Rattle.std.proofs.Common.{◌≡◌, ◌-◌, ◌^◌, List, true}
 use Rattle.world_model.specs.declared.history.HistoryMark.{HistoryMark}
 use Rattle.world_model.specs.Advancing.{Advances}
-use Rattle.router_core.specs.Stands.{Stands, is_idle}
+use Rattle.router_core.specs.Stands.{Stands, live_in}
 use Rattle.router_core.specs.Ties.{Ties}
 use Rattle.router_core.proofs.router.Router.take_queued.Given as goal
 
@@ -9,7 +9,7 @@ use Rattle.router_core.proofs.router.Router.take_queued.Given as goal
 abbrev pub invariant-taking : goal.invariant-taking
 invariant-taking g l = record {
   ties : (marks : List HistoryMark) → Ties (Stands l.fn.self) (g.F.Fabric.told l.fn.fabric) marks → Ties (Stands l.self) (g.F.Fabric.told l.fabric) marks;
-  idle : is_idle l.self.stage ≡ is_idle l.fn.self.stage;
+  live : live_in l.self.stages ≡ live_in l.fn.self.stages;
   begun : l.self.begun ≡ l.fn.self.begun;
   shape : l.self.shape ≡ l.fn.self.shape;
   net : Advances g.F.Fabric.faults g.F.Fabric.opened g.F.Fabric.runs g.F.Fabric.advances l.fn.fabric l.fabric true;
