@@ -11,3 +11,4 @@ pub mod JoinLemmas
 pub mod OutcomePartLemmas
 pub mod OutcomeLemmas
 pub mod CommandLemmas
+pub mod RefusalLemmas
