@@ -12,3 +12,5 @@ pub mod OutcomePartLemmas
 pub mod OutcomeLemmas
 pub mod CommandLemmas
 pub mod RefusalLemmas
+pub mod PartRefusalLemmas
+pub mod LineRefusalLemmas

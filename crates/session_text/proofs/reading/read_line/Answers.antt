@@ -1,5 +1,5 @@
 use Rattle.session_text.proofs.LineLemmas.{found, only}
-use Rattle.session_text.proofs.RefusalLemmas.{answer_is}
+use Rattle.session_text.proofs.LineRefusalLemmas.{answer_is}
 use Rattle.session_text.proofs.reading.read_line.Goals as goal
 
 pub returns-clause-spelled : goal.returns-clause-spelled
