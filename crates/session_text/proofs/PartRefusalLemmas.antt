@@ -1,29 +1,16 @@
 -- The parts of a line: where they refuse words, and that this lasts.
-use Rattle.std.proofs.Common.{◌≡◌, ◌∙◌, ℕ, zero, suc, ◌+◌, ◌<◌, ◌≤◌, ◌||◌, not, nat_le, nat_lt, Bool, true, false, cond, codes, Option, Some, None, option_and_then, Result, Ok, Err, List, [], ◌∷◌, length, take, slice_get, refl, sym, ap, subst, arith, true≢false, IfErr}
-use Rattle.std.proofs.lemmas.Bool.Decides.{nat_tests}
-use Rattle.world_model.specs.declared.order.Order.TheVariants as order
-use Rattle.world_model.specs.declared.shape.Shape.{Shape}
-use Rattle.session_text.specs.declared.tags.Tag.{Tag}
-use Rattle.session_text.specs.declared.tags.Scope.{Scope}
+use Rattle.std.proofs.Common.{◌≡◌, ℕ, ◌+◌, ◌≤◌, ◌||◌, nat_le, Bool, true, false, cond, codes, Option, Some, None, option_and_then, Result, Ok, Err, List, length, slice_get, arith}
 use Rattle.session_text.specs.declared.fault.LineFault.{LineFault}
 use Rattle.session_text.specs.declared.fault.LineFault.TheVariants as fault
 use Rattle.session_text.specs.declared.fault.Wanted.{Wanted}
 use Rattle.session_text.specs.declared.fault.Wanted.TheVariants as wanted
-use Rattle.session_text.specs.declared.names.Name.{Name}
-use Rattle.session_text.specs.declared.names.Name.TheVariants as name
 use Rattle.session_text.specs.declared.command.BlobSource.{BlobSource}
 use Rattle.session_text.specs.declared.command.BlobSource.TheVariants as source
-use Rattle.session_text.specs.declared.command.IdWord.{IdWord}
 use Rattle.session_text.specs.declared.command.Command.{Command}
-use Rattle.session_text.specs.declared.command.Command.TheVariants as command
-use Rattle.session_text.specs.Texts.{words_of, bytes_of_digits, is_nothing, number_at}
-use Rattle.session_text.specs.Names.{name_at}
-use Rattle.session_text.specs.Holders.{node_of, partition_of, holds, are_peers}
-use Rattle.session_text.specs.Spelling.{longest_line, Spells, IsRefusal}
-use Rattle.session_text.specs.Reading.{◌>>=◌, where_true, Gives, found_or, read_at, is_text, has_word, ended, new_tag_of, used_tag_of, id_word_of, metadata_of, file_name_of, type_of, source_in, type_option, metadata_option, file_option, range_in, behind_option, behind_range, put_in, get_in, info_in, delete_in, cancel_in, wait_in, drain_in, stop_in, restart_in, pull_in, compact_in, level_in, command_behind, command_in, line_in}
+use Rattle.session_text.specs.Texts.{bytes_of_digits, number_at}
+use Rattle.session_text.specs.Reading.{◌>>=◌, where_true, found_or, read_at, has_word, ended, file_name_of, source_in, file_option, range_in, behind_option, behind_range}
 use Rattle.session_text.proofs.PlaceLemmas.{done}
-use Rattle.session_text.proofs.LineLemmas.{words_again}
-use Rattle.session_text.proofs.RefusalLemmas.{Words, Same, Stays, refused, earlier_stays, chain_stays, end_stays, test_stays, option_stays, source_stays, file_stays, range_stays, few_same}
+use Rattle.session_text.proofs.RefusalLemmas.{Words, Stays, refused, earlier_stays, chain_stays, end_stays, test_stays, option_stays, source_stays, file_stays, range_stays}
 
 -- ---- no refusal of words is that of a long line
 
