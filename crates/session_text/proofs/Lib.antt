@@ -11,3 +11,6 @@ pub mod JoinLemmas
 pub mod OutcomePartLemmas
 pub mod OutcomeLemmas
 pub mod CommandLemmas
+pub mod RefusalLemmas
+pub mod PartRefusalLemmas
+pub mod LineRefusalLemmas

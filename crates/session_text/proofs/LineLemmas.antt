@@ -214,7 +214,7 @@ order_again scope (order.Pull a b partition) words s = behind_name scope name.Pu
 order_again scope (order.Compact node partition) words s = behind_name scope name.Compact (s.0 ∷ s.1 ∷ []) words (command.Admin (order.Compact node partition)) s.2 (compact_again scope.shape node partition words s)
 order_again scope (order.Level partition a b) words s = behind_name scope name.Level (s.0 ∷ s.1 ∷ s.2 ∷ []) words (command.Admin (order.Level partition a b)) s.3 (level_again scope.shape partition a b words s)
 
-words_again : (scope : Scope) (c : Command) (words : Words) → SpellsByWords scope c words → command_in scope words ≡ Ok c
+pub words_again : (scope : Scope) (c : Command) (words : Words) → SpellsByWords scope c words → command_in scope words ≡ Ok c
 unfolding command_behind
 words_again scope command.Skip words s = skip_again scope words s
 words_again scope (command.Put tag source t m) words s = behind_name scope name.Put (tag ∷ (s.0 ++ (s.1 ++ s.2))) words (command.Put tag source t m) s.3 (put_again scope tag source t m words s)

@@ -1,11 +1,13 @@
 -- Which lines spell a command, said by the command.
-use Rattle.std.specs.Prelude.{◌≡◌, ◌≢◌, ◌⊎◌, ℕ, ◌<◌, ◌≤◌, List, [], ◌∷◌, ◌++◌, length, Bool, true, false, Option, None, Some, Ok, codes}
+use Rattle.std.specs.Prelude.{◌≡◌, ◌≢◌, ◌⊎◌, ℕ, ◌+◌, ◌<◌, ◌≤◌, List, [], ◌∷◌, ◌++◌, length, take, Bool, true, false, Option, None, Some, Ok, codes}
 use Rattle.hex.specs.Hex.{decode_of, encode_lower}
 use Rattle.blob_id.specs.Id.{IsId}
 use Rattle.run_words.specs.Pathnames.{is_pathname}
 use Rattle.world_model.specs.declared.order.Order.{Order}
 use Rattle.world_model.specs.declared.order.Order.TheVariants as order
 use Rattle.world_model.specs.declared.shape.Shape.{Shape}
+use Rattle.session_text.specs.declared.fault.LineFault.{LineFault}
+use Rattle.session_text.specs.declared.fault.LineFault.TheVariants as fault
 use Rattle.session_text.specs.declared.tags.Tag.{Tag}
 use Rattle.session_text.specs.declared.tags.Scope.{Scope}
 use Rattle.session_text.specs.declared.command.BlobSource.{BlobSource}
@@ -115,3 +117,9 @@ SpellsByWords scope command.End words = words ≡ codes "end" ∷ []
 -- The line, without its end, spells the command, where these tags stand before it.
 abbrev pub Spells : Scope → Command → List ℕ → Type 0
 Spells scope command line = (length line ≤ longest_line) × SpellsByWords scope command (words_of line)
+
+-- Why a line may be refused. A word is refused only where no good line begins with the same words, up to this one.
+abbrev pub IsRefusal : Scope → List ℕ → LineFault → Type 0
+IsRefusal scope line fault.TooLong = longest_line < length line
+IsRefusal scope line (fault.Word place wanted) = (other : List ℕ) (command : Command) → take (place + 1) (words_of line) ≡ take (place + 1) (words_of other) → Spells scope command other → ⊥
+IsRefusal scope line fault.Memory = Unit {0}

@@ -28,8 +28,9 @@
 //!
 //! # Proved
 //!
-//! - `read_line` answers a command exactly where the line spells it (`spelled`, `only`). A refusal is that of reading the words
-//!   from left to right (`read`).
+//! - `read_line` answers a command exactly where the line spells it (`spelled`, `only`). No good line begins with the same words as
+//!   one that is refused at a word, up to this one (`refused`), which is the first that reading from left to right doesn't take
+//!   (`read`).
 //! - A line spells one command at most, and only commands that a script may have; each of these is spelled by a line of its own
 //!   (`line_laws`: `one`, `valid`, `each`).
 //! - `Command::is_built` says which commands a session carries out today.

@@ -1,10 +1,10 @@
 //! Reading a line of a script.
 
-ghost use Rattle.std.specs.Prelude.{◌≡◌, IfOk, MatchResult, map};
+ghost use Rattle.std.specs.Prelude.{◌≡◌, IfOk, IfErr, MatchResult, map};
 ghost use Rattle.world_model.specs.Shape.{IsShape};
 ghost use Rattle.session_text.specs.declared.command.Command.{Command as Asks};
 ghost use Rattle.session_text.specs.declared.fault.LineFault.TheVariants as fault;
-ghost use Rattle.session_text.specs.Spelling.{Spells};
+ghost use Rattle.session_text.specs.Spelling.{Spells, IsRefusal};
 ghost use Rattle.session_text.specs.Texts.{is_nothing};
 ghost use Rattle.session_text.specs.Reading.{Gives, cancel_in, wait_in, command_behind, command_in, line_in};
 
@@ -29,7 +29,9 @@ pub fn read_line(alloc: Global, line: &[u8], scope: &Scope) -> Result<Command, L
     ensures spelled { IfOk result (λ command. Spells scope.now command line.now) }
     // Whatever the line spells is read, unless memory runs out: so no good line is refused.
     ensures only { (command : Asks) → Spells scope.now command line.now → MatchResult result (λ read. read ≡ command) (λ refusal. refusal ≡ fault.Memory) }
-    // A refusal names the first word that reading from left to right doesn't take.
+    // No good line begins with the same words as a line that is refused at a word, up to this one.
+    ensures refused { IfErr result (λ refusal. IsRefusal scope.now line.now refusal) }
+    // A refusal is at the first word that reading from left to right doesn't take, and says what has to stand there.
     ensures read { Gives result (line_in scope.now line.now) }
 {
     read_command(alloc, line, scope)
