@@ -73,7 +73,7 @@ module _ {D : Type 0} (tells : Type 0) (content : D → Content) (size : D → �
         ((sees t).layout layout (subst (λ (l : List ℕ). IsLaidOut settings l layout) (sym taken) laid));
   }
 
--- a slot_with that stays
+-- a slot that stays
 stays_same : {D : Type 0} (tells : Type 0) (content : D → Content) (size : D → ℕ) (settings : LogSettings) (old new : ReplicaSlot D) → new ≡ old → StaysClosed tells content size settings old new
 stays_same {D} tells content size settings old new same = record {
   replica = ap (λ (s : ReplicaSlot D). s.replica) same;

@@ -50,7 +50,7 @@ module _ {B D : Type 0} (bays_tell tells : Type 0) (content : D → Content) (si
   others_same zero p other = refl
   others_same (suc k) p other = ap (λ (o : Option (NodeState (ReplicaState D))). port_in (ports_of o) p) (ports_other nodes place k x (λ same. other (omega (arith, same, next))))
 
-  -- the slot_with of the node itself
+  -- the slot of the node itself
   pub slot_here : bays_tell → (p : ℕ) → GoesHome tells content size stops (replica_at at_first node p) (slot_at content home out folder at_first node p) (slot_at content home out folder at_last node p)
   slot_here t p =
       subst (λ (s : Option (ReplicaState D)). GoesHome tells content size stops (replica_at at_first node p) (slot_at content home out folder at_first node p) (record { replica = s; home = home new_bays folder node p; out = out new_bays node p })) (sym (here_none p))

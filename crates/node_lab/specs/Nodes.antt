@@ -101,7 +101,7 @@ module _ {D : Type 0} (tells : Type 0) (content : D → Content) (size faults : 
 
 -- What disks of a type tell, and where bays keep them.
 module _ {B D : Type 0} (content : D → Content) (home : B → Home D) (out : B → Out) where
-  -- a node and a partition as a slot_with
+  -- a node and a partition as a slot
   abbrev pub slot_at : List ℕ → NodesState B D → ℕ → ℕ → ReplicaSlot D
   slot_at folder nodes n p = record { replica = replica_at nodes n p; home = home nodes.bays folder n p; out = out nodes.bays n p }
 

@@ -39,7 +39,7 @@ OtherFoldersStay folder old new = (f : List ℕ) (n p : ℕ) → f ≢ folder �
 
 -- What disks of a type tell, and their size.
 module _ {D : Type 0} (tells : Type 0) (content : D → Content) (size : D → ℕ) where
-  -- what a slot_with holds it holds on
+  -- what a slot holds it holds on
   abbrev pub Keeps : LogSettings → ReplicaSlot D → ReplicaSlot D → Type 0
   Keeps settings old new = (cells : BlobId → Cell) (doubt : Option Change)
       → HoldsPlace content settings old.replica old.home cells doubt → HoldsPlace content settings new.replica new.home cells doubt
@@ -55,7 +55,7 @@ module _ {D : Type 0} (tells : Type 0) (content : D → Content) (size : D → �
     pub bytes : size kept ≡ size replica.log.disk
     pub left : tells → Left content stops replica.log.disk kept
 
-  -- a slot_with is closed, where a replica is open in it
+  -- a slot is closed, where a replica is open in it
   abbrev pub GoesHome : (stops : Bool) → Option (ReplicaState D) → ReplicaSlot D → ReplicaSlot D → Type 0
   GoesHome stops None old new = new ≡ old
   GoesHome stops (Some replica) old new = WentHome stops replica new × (tells → (settings : LogSettings) → Keeps settings old new × KeepsLayout settings old new)
@@ -64,7 +64,7 @@ module _ {D : Type 0} (tells : Type 0) (content : D → Content) (size : D → �
   ClosesWhere false stops old new = new ≡ old
   ClosesWhere true stops old new = GoesHome stops old.replica old new
 
-  -- A slot_with is opened: its disk is out under this folder.
+  -- A slot is opened: its disk is out under this folder.
   pub record OpensSlot (settings : LogSettings) (folder : List ℕ) (old new : ReplicaSlot D) : Type 0 where
     pub was_in : old.out ≡ None
     pub replica : ReplicaState D
@@ -75,7 +75,7 @@ module _ {D : Type 0} (tells : Type 0) (content : D → Content) (size : D → �
   OpensWhere false settings folder old new = new ≡ old
   OpensWhere true settings folder old new = OpensSlot settings folder old new
 
-  -- A slot_with is as it was, but maybe for a disk that is new or was given a manifest; what it holds stays.
+  -- A slot is as it was, but maybe for a disk that is new or was given a manifest; what it holds stays.
   pub record StaysClosed (settings : LogSettings) (old new : ReplicaSlot D) : Type 0 where
     pub replica : new.replica ≡ old.replica
     pub out : new.out ≡ old.out
@@ -88,7 +88,7 @@ module _ {D : Type 0} (tells : Type 0) (content : D → Content) (size : D → �
   IsCause settings home What.OtherShape = tells → (other : LogSettings) × NamesOther settings other (found content settings home)
   IsCause settings home (What.OtherSize bytes) = HasOtherSize tells content size home (disk_size settings) bytes
 
-  -- a slot_with that isn't opened, or isn't meant
+  -- a slot that isn't opened, or isn't meant
   abbrev pub StaysClosedWhere : (meant : Bool) → LogSettings → ReplicaSlot D → ReplicaSlot D → Type 0
   StaysClosedWhere false settings old new = new ≡ old
   StaysClosedWhere true settings old new = StaysClosed settings old new
