@@ -14,3 +14,4 @@ pub mod StopLemmas
 pub mod PortWalkLemmas
 pub mod HostLemmas
 pub mod CountLemmas
+pub mod NodeOpenLemmas
