@@ -15,3 +15,6 @@ pub mod PortWalkLemmas
 pub mod HostLemmas
 pub mod CountLemmas
 pub mod NodeOpenLemmas
+pub mod NodeListLemmas
+pub mod NodeWalkLemmas
+pub mod NodeCloseLemmas

@@ -1,6 +1,7 @@
 //! Opening all nodes, and closing them.
 
 ghost use Rattle.std.specs.Prelude.{◌≡◌, ◌⊎◌, ◌<◌, ◌≤◌, [], true, ℕ, List, Some, None, IfOk, OnOk, OnErr, IsErrOf, length};
+ghost use Rattle.std.specs.Option.{is_some};
 ghost use Rattle.node_core.specs.Ports.{port_in};
 ghost use Rattle.node_lab.specs.Calls.{NodesOut};
 ghost use Rattle.node_lab.specs.Nodes.{has_replica, is_of_node, ports_at};
