@@ -18,3 +18,4 @@ pub mod NodeOpenLemmas
 pub mod NodeListLemmas
 pub mod NodeWalkLemmas
 pub mod NodeCloseLemmas
+pub mod OpenNodesLemmas
