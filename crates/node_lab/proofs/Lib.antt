@@ -19,3 +19,5 @@ pub mod NodeListLemmas
 pub mod NodeWalkLemmas
 pub mod NodeCloseLemmas
 pub mod OpenNodesLemmas
+pub mod CloseLemmas
+pub mod ReopenLemmas

@@ -33,7 +33,7 @@ opened_some {D} tells content size settings folder old new opens =
       home_size = λ disk at. absurd (let no : ◌≡◌ {A = Option D} None (Some disk) = at in cc);
     })
 
-none_of : {T : Type 0} (o : Option T) → is_some o ≡ false → o ≡ None
+pub none_of : {T : Type 0} (o : Option T) → is_some o ≡ false → o ≡ None
 none_of None is = refl
 none_of (Some x) is = absurd (cc is)
 

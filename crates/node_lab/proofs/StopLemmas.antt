@@ -30,6 +30,25 @@ not_same n node other = go (n == node) refl
     go true is = absurd (other (number_true n node is))
     go false is = is
 
+-- what was held by a place that is closed is held on
+pub some_on : {D : Type 0} (tells : Type 0) (content : D → Content) (size : D → ℕ) (stops : Bool) (settings : LogSettings) (old new : ReplicaSlot D) → tells → GoesHome tells content size stops old.replica old new → HoldsSome content size settings old.replica old.home → HoldsSome content size settings new.replica new.home
+some_on {D} tells content size stops settings old new t goes some = go old.replica refl goes
+  where
+    go : (o : Option (ReplicaState D)) → old.replica ≡ o → GoesHome tells content size stops o old new → HoldsSome content size settings new.replica new.home
+    go None none same = subst (λ (s : ReplicaSlot D). HoldsSome content size settings s.replica s.home) (sym same) some
+    go (Some replica) has goes =
+        let went = goes.0 in
+        record {
+          cells = some.cells;
+          doubt = some.doubt;
+          holds = (goes.1 t settings).0 some.cells some.doubt some.holds;
+          open_size = λ r at. absurd (let no : ◌≡◌ {A = Option (ReplicaState D)} None (Some r) = sym (ap (λ (s : ReplicaSlot D). s.replica) went.is) ∙ at in cc);
+          home_size = λ disk at.
+              let both : ◌≡◌ {A = Option D} (Some went.kept) (Some disk) = sym (ap (λ (s : ReplicaSlot D). s.home) went.is) ∙ at in
+              let same : went.kept ≡ disk = cc both in
+              subst (λ (d : D). size d ≡ disk_size settings) same (went.bytes ∙ some.open_size replica has);
+        }
+
 module _ {B D : Type 0} (bays_tell tells : Type 0) (content : D → Content) (size : D → ℕ) (home : B → Home D) (out : B → Out) (stops : Bool) (shape : Option Shape) (folder : List ℕ) (bays new_bays : B) (nodes : List (NodeState (ReplicaState D))) (node place : ℕ) (x : NodeState (ReplicaState D))
     (is : node ≡ place + 1) (within : place < length nodes) (gone : ports_of (Some x) ≡ [])
     (slots : bays_tell → (p : ℕ) → GoesHome tells content size stops (port_in (ports_of (slice_get nodes place)) p)
@@ -79,25 +98,6 @@ module _ {B D : Type 0} (bays_tell tells : Type 0) (content : D → Content) (si
     same_folder = refl;
   }
 
-  -- what was held by a place that is closed is held on
-  some_on : (settings : LogSettings) (old new : ReplicaSlot D) → tells → GoesHome tells content size stops old.replica old new → HoldsSome content size settings old.replica old.home → HoldsSome content size settings new.replica new.home
-  some_on settings old new t goes some = go old.replica refl goes
-    where
-      go : (o : Option (ReplicaState D)) → old.replica ≡ o → GoesHome tells content size stops o old new → HoldsSome content size settings new.replica new.home
-      go None none same = subst (λ (s : ReplicaSlot D). HoldsSome content size settings s.replica s.home) (sym same) some
-      go (Some replica) has goes =
-          let went = goes.0 in
-          record {
-            cells = some.cells;
-            doubt = some.doubt;
-            holds = (goes.1 t settings).0 some.cells some.doubt some.holds;
-            open_size = λ r at. absurd (let no : ◌≡◌ {A = Option (ReplicaState D)} None (Some r) = sym (ap (λ (s : ReplicaSlot D). s.replica) went.is) ∙ at in cc);
-            home_size = λ disk at.
-                let both : ◌≡◌ {A = Option D} (Some went.kept) (Some disk) = sym (ap (λ (s : ReplicaSlot D). s.home) went.is) ∙ at in
-                let same : went.kept ≡ disk = cc both in
-                subst (λ (d : D). size d ≡ disk_size settings) same (went.bytes ∙ some.open_size replica has);
-          }
-
   -- nodes that are open still are
   pub open_closed : (s : Shape) (known : tells → bays_tell) → length (slice_set nodes place x) ≡ length nodes → IsOpen bays_tell tells content size home out s folder bays nodes → IsOpen bays_tell tells content size home out s folder new_bays (slice_set nodes place x)
   open_closed s known long it = record {
@@ -113,7 +113,7 @@ module _ {B D : Type 0} (bays_tell tells : Type 0) (content : D → Content) (si
     ];
     places = λ t n p due. elim (cases_eq n node) [
       | inl same ↦ subst (λ (i : ℕ). HoldsSome content size (settings_of s) (replica_at at_last i p) (home new_bays folder i p)) (sym same)
-          (some_on (settings_of s) (slot_at home out folder at_first node p) (slot_at home out folder at_last node p) t (slot_here (known t) p)
+          (some_on tells content size stops (settings_of s) (slot_at home out folder at_first node p) (slot_at home out folder at_last node p) t (slot_here (known t) p)
           (subst (λ (i : ℕ). HoldsSome content size (settings_of s) (replica_at at_first i p) (home bays folder i p)) same (it.places t n p due)))
       | inr other ↦ subst (λ (q : ReplicaSlot D). HoldsSome content size (settings_of s) q.replica q.home) (sym (slot_other (known t) n p other)) (it.places t n p due)
     ];
