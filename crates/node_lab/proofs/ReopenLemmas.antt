@@ -24,6 +24,16 @@ use Rattle.node_lab.proofs.OpenNodesLemmas.{none_of, opened_some}
 use Rattle.node_lab.proofs.SlotLemmas.{same_slot}
 use Rattle.node_lab.proofs.StopLemmas.{not_same}
 
+-- What holds of nodes for the shape that they are open for holds of the same nodes under another name.
+pub same_shape : {N : Type 0} (shape_of : N → Option Shape) (v w : N) → v ≡ w → (shape : Shape) → shape_of v ≡ Some shape → (P : Shape → N → Type 0) → P shape v → (s : Shape) → shape_of w ≡ Some s → P s w
+same_shape {N} shape_of v w same shape is P holds s at =
+    let both : ◌≡◌ {A = Option Shape} (Some shape) (Some s) = sym is ∙ ap shape_of same ∙ at in
+    let one : shape ≡ s = cc both in
+    subst (λ (n : N). P s n) same (subst (λ (x : Shape). P x v) one holds)
+
+pub other_name : (Q : Option Shape → List ℕ → Type 0) (o : Option Shape) (shape : Shape) (f g : List ℕ) → o ≡ Some shape → f ≡ g → Q (Some shape) f → Q o g
+other_name Q o shape f g is same holds = subst (λ (x : Option Shape). Q x g) (sym is) (subst (λ (h : List ℕ). Q (Some shape) h) same holds)
+
 module _ (shape : Shape) (node : ℕ) where
   -- whether a replica is one of the node
   of_here : (p : ℕ) → is_of_node shape node node p ≡ has_replica shape node p
