@@ -24,9 +24,9 @@ pub fn asking_keeps<D: Disk>()
         → HoldsHere D.content settings old home place → HoldsHere D.content settings new home (asked_place settings ask reply place) }
 {}
 
-/// Nodes that are closed hold what they held, and so do those that aren't opened.
+/// Nodes that are closed hold what they held.
 pub fn closing_keeps<B: Bays>()
-    ensures closed { B.Disk.tells → (shape : Shape) (folder : List ℕ) (places : Places) (old new : NodesState B B.Disk) (meant : ℕ → Bool) (stops : Bool) → old.shape ≡ Some shape
+    ensures { B.Disk.tells → (shape : Shape) (folder : List ℕ) (places : Places) (old new : NodesState B B.Disk) (meant : ℕ → Bool) (stops : Bool) → old.shape ≡ Some shape
         → ClosesNodes B.tells B.Disk.tells B.Disk.content B.Disk.size B.home B.out meant stops old new → Holds B.Disk.content B.home shape folder places old → Holds B.Disk.content B.home shape folder places new }
 {}
 

@@ -13,3 +13,6 @@ pub use fault::NodesFault;
 pub use laws::{asking_keeps, asking_leads, closing_keeps, opening_settles, places_at_home, restarting_leads, unopened_keeps};
 pub use nodes::LabNodes;
 pub use state::NodeState;
+
+#[cfg(test)]
+mod tests;

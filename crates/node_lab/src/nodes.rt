@@ -1,6 +1,7 @@
 //! The nodes of a cluster, with their bays.
 
 ghost use Rattle.std.specs.Prelude.{◌≡◌, ◌≢◌, ◌⊎◌, ◌+◌, ◌<◌, ◌≤◌, ◌==◌, ℕ, List, [], length, string_bytes, Some, None, true, false, IsSome, IfOk, IfSome, IfNone, OnOk, OnErr, IsErrOf};
+ghost use Rattle.std.specs.Option.{option_copied};
 ghost use Rattle.cell_model.specs.Asks.{AnswersInRange, AsksInRange, CanAnswer};
 ghost use Rattle.cell_model.specs.declared.ask.Reply.{Reply};
 ghost use Rattle.node_lab.specs.Calls.{AsksNodes, AsksPorts, AsksReplica, ClosesNodes, FailedIn, OpensNodes, StayUnopened};
@@ -125,6 +126,17 @@ where
         match self.place_of(node) {
             Some(place) => ask_state(&mut self.nodes[place], partition, ask),
             None => Reply::NoPartition,
+        }
+    }
+
+    /// The replica of a node and a partition, if it is open.
+    pub fn replica(&self, node: u32, partition: u16) -> Option<&Replica<B::Disk>>
+        ensures { option_copied result ≡ replica_at self.now node partition }
+    {
+        let place = self.place_of(node)?;
+        match &self.nodes[place] {
+            NodeState::Up(core) => core.port(u32::from(partition)),
+            NodeState::Stopped => None,
         }
     }
 
