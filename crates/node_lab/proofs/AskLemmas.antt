@@ -242,7 +242,7 @@ module _ {D : Type 0} (tells : Type 0) (content : D → Content) (size faults : 
         subst (λ (b : Bool). HoldsOpen content settings b after place.cells doubt) (sym down) (
           refl,
           either_named content settings (content after.log.disk) (cell_in replica.cells) place.cells doubt (λ id. sym (up.held id))
-          (fault_stands settings replica after place.cells asked t is (record { sure = refl; named = up.named; held = up.held })),
+              (fault_stands settings replica after place.cells asked t is (record { sure = refl; named = up.named; held = up.held })),
         )
 
     -- after a fault it is down
@@ -258,7 +258,7 @@ module _ {D : Type 0} (tells : Type 0) (content : D → Content) (size faults : 
       → HoldsHere content settings slot home place → HoldsHere content settings slot home (asked_place settings ask reply place)
   unlanded settings slot home place calm none stays holds =
       subst (λ (b : Bool). HoldsHere content settings slot home (cond b (record { cells = place.cells; doubt = Some (record { id = id_of ask; cell = brought ask }); layout = None })
-        (record { cells = landed_cells place.cells ask reply; doubt = place.doubt; layout = option_map (λ layout. packed_by settings layout (place.cells (id_of ask)) ask reply) place.layout }))) (sym calm)
+      (record { cells = landed_cells place.cells ask reply; doubt = place.doubt; layout = option_map (λ layout. packed_by settings layout (place.cells (id_of ask)) ask reply) place.layout }))) (sym calm)
       (record {
         cells = place_same content settings slot home place.cells (landed_cells place.cells ask reply) place.doubt (λ id. nothing_landed place.cells ask reply id none) holds.cells;
         layout = known place.layout holds.layout;
@@ -286,11 +286,11 @@ module _ {D : Type 0} (tells : Type 0) (content : D → Content) (size faults : 
       go false is up true fault =
           let down = fault_down settings replica after home place asked t is up reply (is_fault_true reply fault) asked.down in
           subst (λ (b : Bool). HoldsHere content settings (Some after) home (cond b (record { cells = place.cells; doubt = Some (record { id = id_of ask; cell = brought ask }); layout = None })
-            (record { cells = landed_cells place.cells ask reply; doubt = place.doubt; layout = option_map (λ layout. packed_by settings layout (place.cells (id_of ask)) ask reply) place.layout }))) (sym fault)
+          (record { cells = landed_cells place.cells ask reply; doubt = place.doubt; layout = option_map (λ layout. packed_by settings layout (place.cells (id_of ask)) ask reply) place.layout }))) (sym fault)
           (record { cells = fault_cells settings replica after home place asked t is up down; layout = tt })
       go false is up false fault =
           subst (λ (b : Bool). HoldsHere content settings (Some after) home (cond b (record { cells = place.cells; doubt = Some (record { id = id_of ask; cell = brought ask }); layout = None })
-            (record { cells = landed_cells place.cells ask reply; doubt = place.doubt; layout = option_map (λ layout. packed_by settings layout (place.cells (id_of ask)) ask reply) place.layout }))) (sym fault)
+          (record { cells = landed_cells place.cells ask reply; doubt = place.doubt; layout = option_map (λ layout. packed_by settings layout (place.cells (id_of ask)) ask reply) place.layout }))) (sym fault)
           (record {
             cells = calm_cells settings replica after home place asked t is up (is_fault_not fault);
             layout = known place.layout holds.layout;

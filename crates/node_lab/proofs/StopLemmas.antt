@@ -52,8 +52,8 @@ some_on {D} tells content size stops settings old new t goes some = go old.repli
 module _ {B D : Type 0} (bays_tell tells : Type 0) (content : D → Content) (size : D → ℕ) (home : B → Home D) (out : B → Out) (stops : Bool) (shape : Option Shape) (folder : List ℕ) (bays new_bays : B) (nodes : List (NodeState (ReplicaState D))) (node place : ℕ) (x : NodeState (ReplicaState D))
     (is : node ≡ place + 1) (within : place < length nodes) (gone : ports_of (Some x) ≡ [])
     (slots : bays_tell → (p : ℕ) → GoesHome tells content size stops (port_in (ports_of (slice_get nodes place)) p)
-        (record { replica = port_in (ports_of (slice_get nodes place)) p; home = home bays folder node p; out = out bays node p })
-        (record { replica = None; home = home new_bays folder node p; out = out new_bays node p }))
+    (record { replica = port_in (ports_of (slice_get nodes place)) p; home = home bays folder node p; out = out bays node p })
+    (record { replica = None; home = home new_bays folder node p; out = out new_bays node p }))
     (others : bays_tell → OtherNodesStay folder node (home bays) (out bays) (home new_bays) (out new_bays)) where
   abbrev at_first : NodesState B D
   at_first = record { shape = shape; folder = folder; bays = bays; nodes = nodes }

@@ -23,7 +23,11 @@ use std::alloc::Global;
 use world_model::Shape;
 
 /// Closes all nodes: the disks of their replicas go home, as they are or as a stop of the machine leaves them.
-pub(crate) fn close_all<B: Bays>(bays: &mut B, nodes: &mut Vec<NodeState<Replica<B::Disk>>>, stops: bool)
+pub(crate) fn close_all<B: Bays>(
+    bays: &mut B,
+    nodes: &mut Vec<NodeState<Replica<B::Disk>>>,
+    stops: bool,
+)
 where
     B::Disk: Drop,
     requires few { length nodes.old.items ≤ 9 }

@@ -156,6 +156,9 @@ fn a_node_that_fails_is_down_until_it_is_opened_again(rt: HostRuntime) -> Result
     let Ok(()) = nodes.open(&shape, "disks") else {
         panic!(rt; "not opened again")
     };
-    assert_eq!(rt; answer_to(alloc, &mut nodes, Step::Get(1))?, Answer::Blob(3));
+    assert_eq!(rt;
+        answer_to(alloc, &mut nodes, Step::Get(1))?,
+        Answer::Blob(3)
+    );
     Ok(())
 }

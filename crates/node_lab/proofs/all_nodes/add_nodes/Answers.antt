@@ -55,7 +55,7 @@ returns-in_err-add_node-clause-few g c =
 pub returns-in_err-add_node-clause-slots : goal.returns-in_err-add_node-clause-slots
 returns-in_err-add_node-clause-slots g c = λ t n p.
     subst (λ (l : List (NodeState (ReplicaState g.row.B-Disk.Denot))). OpensAs g.B.Disk.Disk.tells g.B.Disk.Disk.content g.B.Disk.Disk.size (port_in (ports_at l n) p) (has_replica c.args.shape.now n p) (settings_of c.args.shape.now) c.args.folder.now (slot_in None (g.B.Bays.home c.args.bays.now) (g.B.Bays.out c.args.bays.now) c.args.folder.now n p)
-      (slot_in (port_in (ports_at l n) p) (g.B.Bays.home c.add_node.new.bays) (g.B.Bays.out c.add_node.new.bays) c.args.folder.now n p)) (sym c.in_err-add_node.ensures.nodes)
+    (slot_in (port_in (ports_at l n) p) (g.B.Bays.home c.add_node.new.bays) (g.B.Bays.out c.add_node.new.bays) c.args.folder.now n p)) (sym c.in_err-add_node.ensures.nodes)
     (ends_here g.B.Bays.tells g.B.Disk.Disk.tells g.B.Disk.Disk.content g.B.Disk.Disk.size (settings_of c.args.shape.now) c.args.folder.now c.args.shape.now (g.B.Bays.home c.args.bays.now) (g.B.Bays.out c.args.bays.now)
     c.loop-node.node c.loop-node.nodes.items (g.B.Bays.home c.loop-node.bays) (g.B.Bays.home c.add_node.new.bays) (g.B.Bays.out c.loop-node.bays) (g.B.Bays.out c.add_node.new.bays) c.loop-node.invariant.so_far c.add_node.ensures.others c.in_err-add_node.ensures.closed t n p)
 

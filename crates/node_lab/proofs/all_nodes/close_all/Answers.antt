@@ -32,9 +32,11 @@ loop-place-init g c = record {
 }
 
 pub close_node-requires : goal.close_node-requires
-close_node-requires g c = record { out = λ t.
-    let known = c.requires.out t in
-    (known.0, are_out g (goal.at.close_node-requires g c).After-index_mut t known.0 known.1) }
+close_node-requires g c = record {
+  out = λ t.
+      let known = c.requires.out t in
+      (known.0, are_out g (goal.at.close_node-requires g c).After-index_mut t known.0 known.1);
+}
 
 pub loop-place-preserved : goal.loop-place-preserved
 loop-place-preserved g c =
@@ -43,7 +45,7 @@ loop-place-preserved g c =
       so_far = one_more g.B.Bays.tells g.B.Disk.Disk.tells g.B.Disk.Disk.content g.B.Disk.Disk.size c.args.stops c.args.nodes.now.items (g.B.Bays.home c.args.bays.now) (g.B.Bays.out c.args.bays.now)
           c.loop-place.place c.loop-place.nodes.items (g.B.Bays.home c.loop-place.bays) (g.B.Bays.home c.close_node.new.bays) (g.B.Bays.out c.loop-place.bays) (g.B.Bays.out c.close_node.new.bays) c.loop-place.invariant.so_far c.close_node.new.state (within g it) c.close_node.ensures.gone
           (λ t folder outs. subst (λ (o : Option (NodeState (ReplicaState g.row.B-Disk.Denot))). (p : ℕ) → GoesHome g.B.Disk.Disk.tells g.B.Disk.Disk.content g.B.Disk.Disk.size c.args.stops (port_in (ports_of o) p) (slot_in (port_in (ports_of o) p) (g.B.Bays.home c.loop-place.bays) (g.B.Bays.out c.loop-place.bays) folder (c.loop-place.place + 1) p)
-            (slot_in None (g.B.Bays.home c.close_node.new.bays) (g.B.Bays.out c.close_node.new.bays) folder (c.loop-place.place + 1) p)) (sym (found g it)) (c.close_node.ensures.slots t folder (are_out g it t folder outs)))
+          (slot_in None (g.B.Bays.home c.close_node.new.bays) (g.B.Bays.out c.close_node.new.bays) folder (c.loop-place.place + 1) p)) (sym (found g it)) (c.close_node.ensures.slots t folder (are_out g it t folder outs)))
           (λ t folder outs. c.close_node.ensures.others t folder (are_out g it t folder outs));
       faults = c.close_node.ensures.faults ∙ c.loop-place.invariant.faults;
       same = g.met.B.Bays.same_on c.args.bays.now c.loop-place.bays c.close_node.new.bays c.loop-place.invariant.same c.close_node.ensures.same;

@@ -18,5 +18,5 @@ returns-in_ok-replica-clause-opened g c =
       slot = λ t. subst (λ (b : Bool). OpensWhere g.B.Disk.Disk.tells g.B.Disk.Disk.content g.B.Disk.Disk.size b (settings_of c.args.shape.now) c.args.folder.now (slot_in None (g.B.Bays.home c.args.bays.now) (g.B.Bays.out c.args.bays.now) c.args.folder.now c.args.node c.args.partition)
           (slot_in (Some c.in_ok-replica.replica) (g.B.Bays.home c.open_replica.new.bays) (g.B.Bays.out c.open_replica.new.bays) c.args.folder.now c.args.node c.args.partition)) (sym due)
           (subst (λ (s : LogSettings). OpensSlot g.B.Disk.Disk.tells g.B.Disk.Disk.content g.B.Disk.Disk.size s c.args.folder.now (slot_in None (g.B.Bays.home c.args.bays.now) (g.B.Bays.out c.args.bays.now) c.args.folder.now c.args.node c.args.partition)
-            (slot_in (Some c.in_ok-replica.replica) (g.B.Bays.home c.open_replica.new.bays) (g.B.Bays.out c.open_replica.new.bays) c.args.folder.now c.args.node c.args.partition)) c.settings_of.ensures.settings (c.in_ok-replica.ensures.opened t));
+          (slot_in (Some c.in_ok-replica.replica) (g.B.Bays.home c.open_replica.new.bays) (g.B.Bays.out c.open_replica.new.bays) c.args.folder.now c.args.node c.args.partition)) c.settings_of.ensures.settings (c.in_ok-replica.ensures.opened t));
     }

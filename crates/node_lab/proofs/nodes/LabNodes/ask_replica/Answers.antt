@@ -36,8 +36,8 @@ invariant_of-self g c =
     go : (o : Option Shape) → c.self.inside.shape ≡ o → c.in-Some.place < length c.self.inside.nodes.items
         → IsNodes g.B.Bays.tells g.B.Disk.Disk.tells g.B.Disk.Disk.content g.B.Disk.Disk.size g.B.Bays.home g.B.Bays.out o (string_bytes c.self.inside.folder) c.self.inside.bays c.self.inside.nodes.items
         → AsksNodes g.B.Disk.Disk.tells g.B.Disk.Disk.content g.B.Disk.Disk.size g.B.Disk.Disk.faults {B = g.row.B.Denot}
-            (record { shape = o; folder = string_bytes c.self.inside.folder; bays = c.self.inside.bays; nodes = c.self.inside.nodes.items }) c.args.node c.args.partition c.args.ask c.ask_state.result
-            (record { shape = o; folder = string_bytes c.self.inside.folder; bays = c.self.inside.bays; nodes = slice_set c.self.inside.nodes.items c.in-Some.place c.ask_state.new.state })
+        (record { shape = o; folder = string_bytes c.self.inside.folder; bays = c.self.inside.bays; nodes = c.self.inside.nodes.items }) c.args.node c.args.partition c.args.ask c.ask_state.result
+        (record { shape = o; folder = string_bytes c.self.inside.folder; bays = c.self.inside.bays; nodes = slice_set c.self.inside.nodes.items c.in-Some.place c.ask_state.new.state })
         → IsNodes g.B.Bays.tells g.B.Disk.Disk.tells g.B.Disk.Disk.content g.B.Disk.Disk.size g.B.Bays.home g.B.Bays.out o (string_bytes c.self.inside.folder) c.self.inside.bays (slice_set c.self.inside.nodes.items c.in-Some.place c.ask_state.new.state)
     go None is inside none asked = absurd (let few : length c.self.inside.nodes.items ≡ 0 = ap length none.1 in omega (arith, inside, few))
     go (Some shape) is inside it asked =
