@@ -1,5 +1,5 @@
 -- What an ask does to a place.
-use Rattle.std.proofs.Common.{◌≡◌, ◌≢◌, ◌⊎◌, inl, inr, ⊎_elim, ℕ, ◌+◌, Bool, true, false, cond, if◌then◌else◌, Option, Some, None, refl, sym, ◌∙◌, ap, subst}
+use Rattle.std.proofs.Common.{◌≡◌, ◌≢◌, inl, inr, ⊎_elim, ℕ, ◌+◌, Bool, true, false, cond, if◌then◌else◌, Option, Some, None, refl, sym, ◌∙◌, ap, subst}
 use Rattle.std.specs.Prelude.{IsSome, bytes_eq}
 use Rattle.std.specs.Option.{is_some, option_map}
 use Rattle.std.proofs.lemmas.List.Elements.{All-weaker}
@@ -26,8 +26,8 @@ use Rattle.world_model.specs.World.{Change, MayReply, arriving_change, same_id}
 use Rattle.world_model.proofs.CellLaws.{same_id_true}
 use Rattle.node_lab.specs.Replicas.{AllRepresentEither, LogHasLayout, HoldsOpen, HoldsPlace, HoldsUp, PlaceHasLayout, RepresentsEither, settled}
 use Rattle.node_lab.specs.Calls.{AsksReplica}
-use Rattle.node_lab.specs.Places.{AnswersBy, HoldsHere, IsPackedBy, KnowsLayout, Place, asked_place, is_fault, landed_cells}
-use Rattle.node_lab.proofs.ReplicaLemmas.{same_stands, settled_sure}
+use Rattle.node_lab.specs.Places.{AnswersBy, HoldsHere, KnowsLayout, Place, asked_place, is_fault, landed_cells}
+use Rattle.node_lab.proofs.ReplicaLemmas.{same_stands}
 
 -- a replica that is down refuses any ask
 down_refuses : (ask : Ask) → IsRefusal ask Reply.Down

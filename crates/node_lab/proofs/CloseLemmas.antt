@@ -8,7 +8,7 @@ use Rattle.replica_core.specs.State.{ReplicaState}
 use Rattle.world_model.specs.declared.shape.Shape.{Shape}
 use Rattle.node_lab.specs.declared.state.NodeState.{NodeState}
 use Rattle.node_lab.specs.Calls.{ClosesNodes}
-use Rattle.node_lab.specs.Nodes.{HoldsSome, IsNodes, IsOpen, NodesState, has_replica, ports_at}
+use Rattle.node_lab.specs.Nodes.{HoldsSome, IsNodes, IsOpen, ports_at}
 use Rattle.node_lab.specs.Replicas.{settings_of}
 use Rattle.node_lab.specs.Slots.{GoesHome, OtherFoldersStay, slot_in}
 use Rattle.node_lab.proofs.StopLemmas.{some_on}

@@ -1,5 +1,5 @@
 -- The nodes of a shape are opened one by one.
-use Rattle.std.proofs.Common.{◌≡◌, ◌≢◌, ◌⊎◌, inl, inr, ⊎_elim, ℕ, zero, suc, ◌+◌, ◌<◌, ◌≤◌, ◌==◌, ◌&&◌, arith, Bool, true, false, List, [], ◌∷◌, ◌++◌, length, length-append, Option, Some, None, refl, sym, ◌∙◌, ap, subst}
+use Rattle.std.proofs.Common.{◌≡◌, ◌≢◌, inl, inr, ⊎_elim, ℕ, ◌+◌, ◌<◌, ◌≤◌, ◌==◌, ◌&&◌, arith, Bool, true, false, List, [], ◌∷◌, length, length-append, Option, Some, None, refl, sym, ◌∙◌, ap, subst}
 use Rattle.std.specs.Option.{is_some}
 use Rattle.std.proofs.lemmas.Bool.{cases_eq, cases_lt}
 use Rattle.disk_core.specs.Content.{Content}
@@ -14,7 +14,7 @@ use Rattle.world_model.proofs.CellLaws.{same_number}
 use Rattle.node_lab.specs.declared.state.NodeState.{NodeState}
 use Rattle.node_lab.specs.Nodes.{has_replica, is_of_node, ports_at, ports_of}
 use Rattle.node_lab.specs.Openings.{NodeFailed, OpensNode}
-use Rattle.node_lab.specs.Refusals.{CanOpen, IsEarlier, IsFirst}
+use Rattle.node_lab.specs.Refusals.{CanOpen, IsFirst}
 use Rattle.node_lab.specs.Slots.{FailedAt, IsCause, OpensAs, OpensWhere, OtherFoldersStay, OtherNodesStay, ReplicaSlot, SomeFailed, StaysClosedWhere, slot_in}
 use Rattle.node_lab.proofs.NodeListLemmas.{last_ports, other_ports, ports_past, unhosted}
 use Rattle.node_lab.proofs.PortWalkLemmas.{can_open}

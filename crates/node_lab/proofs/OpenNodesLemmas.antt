@@ -1,7 +1,6 @@
 -- What nodes are when they were opened, or weren't.
-use Rattle.std.proofs.Common.{◌≡◌, ◌⊎◌, ℕ, zero, suc, Bool, true, false, List, [], length, Option, Some, None, refl, sym, ◌∙◌, ap, subst}
+use Rattle.std.proofs.Common.{◌≡◌, ℕ, zero, suc, Bool, false, List, [], length, Option, Some, None, refl, sym, ◌∙◌, ap, subst}
 use Rattle.std.specs.Option.{is_some}
-use Rattle.std.specs.Prelude.{IsSome}
 use Rattle.cell_model.specs.Cells.{cell_in}
 use Rattle.disk_core.specs.Content.{Content}
 use Rattle.disk_core.specs.Homes.{Home, Out}
@@ -16,7 +15,6 @@ use Rattle.node_lab.specs.Calls.{OpensNodes, StayUnopened}
 use Rattle.node_lab.specs.Nodes.{HoldsSome, IsNodes, IsOpen, NodesState, has_replica, never_opened, ports_at, replica_at, slot_at}
 use Rattle.node_lab.specs.Replicas.{settings_of}
 use Rattle.node_lab.specs.Slots.{FailedAt, OpensAs, OpensSlot, OpensWhere, OtherFoldersStay, ReplicaSlot, SomeFailed, StaysClosedWhere, slot_in}
-use Rattle.node_lab.proofs.NodeListLemmas.{ports_past}
 use Rattle.node_lab.proofs.ReplicaLemmas.{held_up}
 use Rattle.node_lab.proofs.SlotLemmas.{opened_out, opens_where}
 

@@ -1,16 +1,14 @@
 -- A node that was stopped is opened again, or isn't: all other nodes stay.
-use Rattle.std.proofs.Common.{◌≡◌, ◌≢◌, ◌⊎◌, inl, inr, ⊎_elim, ℕ, zero, suc, ◌+◌, ◌<◌, ◌==◌, ◌&&◌, arith, Bool, true, false, List, [], length, length-set, slice_set, Option, Some, None, refl, sym, ◌∙◌, ap, subst}
-use Rattle.std.specs.List.{slice_get}
+use Rattle.std.proofs.Common.{◌≡◌, ◌≢◌, ◌⊎◌, inl, inr, ⊎_elim, ℕ, zero, suc, ◌+◌, ◌<◌, ◌&&◌, arith, Bool, true, false, List, length, length-set, slice_set, Option, Some, None, refl, sym, ◌∙◌, ap, subst}
 use Rattle.std.specs.Option.{is_some}
 use Rattle.std.specs.Prelude.{IsSome}
 use Rattle.std.proofs.lemmas.Bool.{cases_eq}
 use Rattle.disk_core.specs.Content.{Content}
 use Rattle.disk_core.specs.Homes.{Home, Out}
-use Rattle.log_manifest.specs.declared.manifest.LogSettings.{LogSettings}
 use Rattle.node_core.specs.Ports.{port_in}
 use Rattle.replica_core.specs.State.{ReplicaState}
 use Rattle.world_model.specs.declared.shape.Shape.{Shape}
-use Rattle.world_model.proofs.CellLaws.{number_true, same_number}
+use Rattle.world_model.proofs.CellLaws.{same_number}
 use Rattle.node_lab.specs.declared.state.NodeState.{NodeState}
 use Rattle.node_lab.specs.Calls.{OpensNodes, StayUnopened}
 use Rattle.node_lab.specs.Nodes.{HoldsSome, IsOpen, NodesState, has_replica, is_of_node, ports_at, ports_of, slot_at}
@@ -19,7 +17,7 @@ use Rattle.node_lab.specs.Replicas.{settings_of}
 use Rattle.node_lab.specs.Slots.{FailedAt, OpensWhere, OtherNodesStay, ReplicaSlot, SomeFailed, StaysClosed, StaysClosedWhere, slot_in}
 use Rattle.node_lab.proofs.CloseLemmas.{no_none}
 use Rattle.node_lab.proofs.NodeAskLemmas.{ports_other, ports_set}
-use Rattle.node_lab.proofs.NodeListLemmas.{ports_past, unhosted}
+use Rattle.node_lab.proofs.NodeListLemmas.{unhosted}
 use Rattle.node_lab.proofs.OpenNodesLemmas.{none_of, opened_some}
 use Rattle.node_lab.proofs.SlotLemmas.{same_slot}
 use Rattle.node_lab.proofs.StopLemmas.{not_same}

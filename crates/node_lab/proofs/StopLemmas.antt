@@ -1,5 +1,5 @@
 -- A node is stopped: its disks go home, and all other nodes stay.
-use Rattle.std.proofs.Common.{◌≡◌, ◌≢◌, ◌⊎◌, inl, inr, ⊎_elim, ℕ, zero, suc, ◌+◌, ◌<◌, ◌==◌, arith, Bool, true, false, cond, List, [], ◌∷◌, length, slice_set, Option, Some, None, refl, sym, ◌∙◌, ap, subst}
+use Rattle.std.proofs.Common.{◌≡◌, ◌≢◌, inl, inr, ℕ, zero, suc, ◌+◌, ◌<◌, ◌==◌, arith, Bool, true, false, cond, List, [], length, slice_set, Option, Some, None, refl, sym, ◌∙◌, ap, subst}
 use Rattle.std.specs.List.{slice_get}
 use Rattle.std.specs.Prelude.{IsSome}
 use Rattle.std.proofs.lemmas.Bool.{cases_eq}
@@ -12,11 +12,11 @@ use Rattle.replica_core.specs.State.{ReplicaState}
 use Rattle.world_model.specs.declared.shape.Shape.{Shape}
 use Rattle.world_model.proofs.CellLaws.{number_true, same_number}
 use Rattle.node_lab.specs.declared.state.NodeState.{NodeState}
-use Rattle.node_lab.specs.Replicas.{HoldsPlace, settings_of}
-use Rattle.node_lab.specs.Nodes.{HoldsSome, IsOpen, NodesState, has_replica, ports_at, ports_of, replica_at, slot_at}
-use Rattle.node_lab.specs.Calls.{ClosesNodes, PortsOut}
+use Rattle.node_lab.specs.Replicas.{settings_of}
+use Rattle.node_lab.specs.Nodes.{HoldsSome, IsOpen, NodesState, ports_of, replica_at, slot_at}
+use Rattle.node_lab.specs.Calls.{ClosesNodes}
 use Rattle.node_lab.specs.Slots.{OtherNodesStay}
-use Rattle.node_lab.specs.Slots.{GoesHome, ClosesWhere, Keeps, OtherFoldersStay, ReplicaSlot, WentHome}
+use Rattle.node_lab.specs.Slots.{GoesHome, ClosesWhere, ReplicaSlot}
 use Rattle.node_lab.proofs.NodeAskLemmas.{ports_other, ports_set}
 use Rattle.node_lab.proofs.SlotLemmas.{same_slot}
 

@@ -1,4 +1,4 @@
-use Rattle.std.proofs.Common.{rules, ◌≡◌, ◌⊎◌, ⊎_elim, inl, inr, ℕ, ◌+◌, ◌≤◌, arith, true, List, [], length, None, refl, sym, ◌∙◌, ap, subst}
+use Rattle.std.proofs.Common.{rules, ◌≡◌, ⊎_elim, inl, inr, ℕ, ◌+◌, arith, true, List, length, None, sym, ap, subst}
 use Rattle.node_core.specs.Ports.{port_in}
 use Rattle.outside.specs.Causes.{Rose}
 use Rattle.replica_core.specs.State.{ReplicaState}

@@ -1,4 +1,4 @@
-use Rattle.std.proofs.Common.{◌≡◌, ◌≤◌}
+use Rattle.std.proofs.Common.{◌≤◌}
 use Rattle.node_lab.specs.Replicas.{settings_of}
 use Rattle.node_lab.proofs.NodeWalkLemmas.{NodesTo}
 use Rattle.node_lab.proofs.all_nodes.add_nodes.Given as goal

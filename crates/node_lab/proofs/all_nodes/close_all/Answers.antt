@@ -1,4 +1,4 @@
-use Rattle.std.proofs.Common.{◌≡◌, ℕ, ◌+◌, ◌<◌, ◌≤◌, arith, List, Option, Some, None, length, refl, sym, ◌∙◌, ap, subst}
+use Rattle.std.proofs.Common.{◌≡◌, ℕ, ◌+◌, ◌<◌, arith, List, Option, Some, None, length, refl, sym, ◌∙◌, ap, subst}
 use Rattle.std.specs.List.{slice_get}
 use Rattle.std.proofs.lemmas.Option.{slice_get-get_or}
 use Rattle.node_core.specs.Ports.{port_in}
@@ -6,7 +6,7 @@ use Rattle.replica_core.specs.State.{ReplicaState}
 use Rattle.node_lab.specs.declared.state.NodeState.{NodeState}
 use Rattle.node_lab.specs.Calls.{NodesOut, PortsOut}
 use Rattle.node_lab.specs.Nodes.{ports_of}
-use Rattle.node_lab.specs.Slots.{GoesHome, OtherNodesStay, slot_in}
+use Rattle.node_lab.specs.Slots.{GoesHome, slot_in}
 use Rattle.node_lab.proofs.NodeCloseLemmas.{ClosesTo, all_gone, all_home, next_out, none_closed, one_more}
 use Rattle.node_lab.proofs.all_nodes.close_all.Goals as goal
 use Rattle.node_lab.proofs.all_nodes.close_all.Goals.{After-index_mut}

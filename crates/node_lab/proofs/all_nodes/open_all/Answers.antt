@@ -1,4 +1,4 @@
-use Rattle.std.proofs.Common.{◌≡◌, ◌⊎◌, ⊎_elim, inl, inr, ℕ, ◌≤◌, arith, false, List, None, refl, sym, ◌∙◌, subst}
+use Rattle.std.proofs.Common.{◌≡◌, ⊎_elim, inl, inr, ℕ, arith, None, refl, sym, ◌∙◌, subst}
 use Rattle.node_core.specs.Ports.{port_in}
 use Rattle.outside.specs.Causes.{Rose}
 use Rattle.node_lab.specs.Calls.{NodesOut}

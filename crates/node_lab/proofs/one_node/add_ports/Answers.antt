@@ -1,5 +1,4 @@
-use Rattle.std.proofs.Common.{rules, None, ◌⊎◌, ◌≡◌, ℕ, ◌≤◌, ◌<◌, ◌+◌, arith, true, List, [], refl, sym, ◌∙◌, ap, subst, ⊎_elim, inl, inr}
-use Rattle.disk_core.specs.Homes.{OthersStay}
+use Rattle.std.proofs.Common.{rules, None, ◌≡◌, ℕ, ◌≤◌, arith, true, List, sym, subst, ⊎_elim, inl, inr}
 use Rattle.replica_core.specs.State.{ReplicaState}
 use Rattle.node_lab.specs.Nodes.{has_replica}
 use Rattle.node_lab.specs.Replicas.{settings_of}

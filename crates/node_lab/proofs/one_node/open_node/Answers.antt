@@ -1,4 +1,4 @@
-use Rattle.std.proofs.Common.{rules, ◌≡◌, ◌⊎◌, ⊎_elim, inl, inr, ℕ, ◌≤◌, arith, false, List, None, sym, ◌∙◌, ap, subst}
+use Rattle.std.proofs.Common.{rules, ◌≡◌, ⊎_elim, inl, inr, ℕ, false, List, None, sym, ap, subst}
 use Rattle.node_core.specs.Ports.{port_in}
 use Rattle.outside.specs.Causes.{Rose}
 use Rattle.replica_core.specs.State.{ReplicaState}
@@ -7,7 +7,7 @@ use Rattle.node_lab.specs.Calls.{PortsOut}
 use Rattle.node_lab.specs.Nodes.{has_replica}
 use Rattle.node_lab.specs.Openings.{NodeFailed}
 use Rattle.node_lab.specs.Replicas.{settings_of}
-use Rattle.node_lab.specs.Slots.{GoesHome, OtherNodesStay, StaysClosedWhere, slot_in}
+use Rattle.node_lab.specs.Slots.{GoesHome, slot_in}
 use Rattle.node_lab.proofs.NodeOpenLemmas.{node_closed, node_failed, others_chain, ports_out}
 use Rattle.node_lab.proofs.one_node.open_node.Goals as goal
 use Rattle.node_lab.proofs.one_node.open_node.Goals.{After-add_ports, In-Err-new}

@@ -1,4 +1,4 @@
-use Rattle.std.proofs.Common.{◌≡◌, ◌≤◌, arith, true, false, List, ℕ, Option, Some, None, length, refl, sym, subst}
+use Rattle.std.proofs.Common.{arith, true, false, Option, sym, subst}
 use Rattle.std.specs.Prelude.{IsSome}
 use Rattle.std.specs.String.{string_bytes}
 use Rattle.world_model.specs.declared.shape.Shape.{Shape}
