@@ -21,3 +21,4 @@ pub mod NodeCloseLemmas
 pub mod OpenNodesLemmas
 pub mod CloseLemmas
 pub mod ReopenLemmas
+pub mod OutLemmas

@@ -14,7 +14,7 @@
 //! - `LabNodes::open` opens all nodes over the disks of a folder, `ask` asks one replica, and `replica` looks at one. `stop` closes
 //!   a node as a stop of the machine does, `restart` opens it again, `close` closes all, `give_back` hands the bays back.
 //! - Laws say what calls come to for the places: `asking_keeps`, `closing_keeps`, `unopened_keeps`, `opening_settles`,
-//!   `places_at_home`, and for what a network told, `asking_leads` and `restarting_leads`.
+//!   `places_at_home`; which disks are out, `only_own_are_out`; and for what a network told, `asking_leads` and `restarting_leads`.
 //!
 //! # Proved
 //!
@@ -51,8 +51,8 @@ mod state;
 
 pub use fault::NodesFault;
 pub use laws::{
-    asking_keeps, asking_leads, closing_keeps, opening_settles, places_at_home, restarting_leads,
-    unopened_keeps,
+    asking_keeps, asking_leads, closing_keeps, only_own_are_out, opening_settles, places_at_home,
+    restarting_leads, unopened_keeps,
 };
 pub use nodes::LabNodes;
 pub use state::NodeState;
