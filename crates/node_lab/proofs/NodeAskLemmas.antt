@@ -18,8 +18,7 @@ use Rattle.node_lab.specs.declared.state.NodeState.{NodeState}
 use Rattle.node_lab.specs.Replicas.{settings_of}
 use Rattle.node_lab.specs.Nodes.{Holds, HoldsSome, IsFor, IsOpen, NodesState, asked_places, has_replica, is_up, ports_at, ports_of, replica_at}
 use Rattle.node_lab.specs.Calls.{AsksNodes, AsksPorts, AsksReplica, FailedIn}
-use Rattle.node_lab.specs.Places.{HoldsAt, IsBlank, Place, Places, asked_place}
-use Rattle.node_lab.specs.Places.{AnswersBy}
+use Rattle.node_lab.specs.Places.{AnswersBy, HoldsAt, IsBlank, Place, Places, asked_place}
 use Rattle.node_lab.proofs.AskLemmas.{absent_either, ask_answers, ask_holds, never_none}
 use Rattle.part_log.specs.Log.{disk_size}
 use Rattle.replica_core.specs.State.{IsAsked, ReplicaState}

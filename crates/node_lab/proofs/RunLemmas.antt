@@ -18,12 +18,11 @@ use Rattle.world_model.specs.declared.shape.Shape.{Shape}
 use Rattle.world_model.specs.declared.step.Step.TheVariants as steps
 use Rattle.world_model.specs.Record.{Item, Record, Took}
 use Rattle.world_model.specs.World.{Call, Cells, Change, MayReply, MayRun, MayTear, World, after, arriving_call, arriving_change, call_at, doubt_call, is_call_at, same_id, world}
-use Rattle.node_lab.specs.Places.{AnswersBy}
+use Rattle.node_lab.specs.Places.{AnswersBy, HoldsAt, KnowsLayout, Place, Places, is_fault, landed_at, landed_cells, settled_place}
 use Rattle.node_lab.specs.Replicas.{HoldsPlace, settings_of}
 use Rattle.node_lab.specs.RunPlaces.{IsCallPacked, Known, LeadsTo, called_layouts, item_layouts, layouts_after, places_after, places_of}
 use Rattle.node_lab.specs.Nodes.{Holds, NodesState, asked_places, has_replica, is_up, replica_at, settled_places}
 use Rattle.node_lab.specs.Calls.{AsksNodes, AsksReplica}
-use Rattle.node_lab.specs.Places.{HoldsAt, KnowsLayout, Place, Places, is_fault, landed_at, landed_cells, settled_place}
 use Rattle.world_model.proofs.CellLaws.{number_true}
 use Rattle.node_lab.proofs.AskLemmas.{is_fault_true, place_same}
 use Rattle.node_lab.proofs.NodeAskLemmas.{place_answers, places_asked}

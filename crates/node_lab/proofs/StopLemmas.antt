@@ -15,8 +15,7 @@ use Rattle.node_lab.specs.declared.state.NodeState.{NodeState}
 use Rattle.node_lab.specs.Replicas.{settings_of}
 use Rattle.node_lab.specs.Nodes.{HoldsSome, IsOpen, NodesState, ports_of, replica_at, slot_at}
 use Rattle.node_lab.specs.Calls.{ClosesNodes}
-use Rattle.node_lab.specs.Slots.{OtherNodesStay}
-use Rattle.node_lab.specs.Slots.{GoesHome, ClosesWhere, ReplicaSlot}
+use Rattle.node_lab.specs.Slots.{ClosesWhere, GoesHome, OtherNodesStay, ReplicaSlot}
 use Rattle.node_lab.proofs.NodeAskLemmas.{ports_other, ports_set}
 use Rattle.node_lab.proofs.SlotLemmas.{same_slot}
 

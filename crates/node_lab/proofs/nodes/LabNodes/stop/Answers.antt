@@ -8,8 +8,7 @@ use Rattle.world_model.specs.declared.shape.Shape.{Shape}
 use Rattle.node_lab.specs.declared.state.NodeState.{NodeState}
 use Rattle.node_lab.specs.Nodes.{IsNodes, NodesState, ports_at, ports_of}
 use Rattle.node_lab.specs.Calls.{ClosesNodes, PortsOut}
-use Rattle.node_lab.specs.Slots.{OtherNodesStay}
-use Rattle.node_lab.specs.Slots.{GoesHome}
+use Rattle.node_lab.specs.Slots.{GoesHome, OtherNodesStay}
 use Rattle.node_lab.proofs.StopLemmas.{nodes_closed, open_closed}
 use Rattle.node_lab.proofs.nodes.LabNodes.stop.Goals as goal
 use Rattle.node_lab.proofs.nodes.LabNodes.stop.Goals.{In-Some}
