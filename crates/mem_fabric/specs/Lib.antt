@@ -10,3 +10,5 @@ pub mod Going
 pub mod Acting
 pub mod GoingLaws
 pub mod PlayedLaws
+pub mod Advancing
+pub mod AdvancingLaws

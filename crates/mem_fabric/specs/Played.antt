@@ -1,5 +1,5 @@
 -- What is done to the network of the nodes, act by act, and which moves that takes.
-use Rattle.std.specs.Prelude.{◌≡◌, ℕ, Bool, List, [], ◌∷◌, ◌++◌, Option, Some, None, IsSome}
+use Rattle.std.specs.Prelude.{◌≡◌, ℕ, Bool, true, List, [], ◌∷◌, ◌++◌, Option, Some, None, IsSome}
 use Rattle.cell_model.specs.declared.ask.Reply.{Reply}
 use Rattle.world_model.specs.declared.moves.Move.{Move}
 use Rattle.world_model.specs.declared.order.Order.{Order}
@@ -76,13 +76,9 @@ pub record PlaysBy (acts : List Act) (given : List Move) (n : Network) (given' :
   pub may : AllMay n acts
   pub network : n' ≡ all_acted n acts
 
--- each move that was given was made, once and in order
-abbrev pub Plays : List Move → Network → List Move → Network → Type 0
-Plays given n given' n' = (acts : List Act) × DidAll acts × PlaysBy acts given n given' n'
-
--- each call made the move that it was given, or found no memory and did nothing
-abbrev pub Falls : List Move → Network → List Move → Network → Type 0
-Falls given n given' n' = (acts : List Act) × PlaysBy acts given n given' n'
+-- Each move that was given was made, once and in order. Where the calls weren't whole, some may have found no memory and done nothing.
+abbrev pub Plays : List Move → Network → List Move → Network → (whole : Bool) → Type 0
+Plays given n given' n' whole = (acts : List Act) × (whole ≡ true → DidAll acts) × PlaysBy acts given n given' n'
 
 -- the order that an act carries out
 abbrev pub order_in : Act → List OrderAnswer

@@ -1,11 +1,11 @@
 -- Acts of a network follow one another.
-use Rattle.std.specs.Prelude.{◌≡◌, Bool, true, List, [], ◌∷◌, ◌++◌, Some, refl}
+use Rattle.std.specs.Prelude.{◌≡◌, Bool, true, false, ◌&&◌, List, [], ◌∷◌, ◌++◌, Some, refl}
 use Rattle.std.proofs.Common.{ap, sym, ◌∙◌, subst, append_assoc, append-nil}
 use Rattle.world_model.specs.declared.moves.Move.{Move}
 use Rattle.world_model.specs.declared.step.Called.{Called}
 use Rattle.mem_fabric.specs.Network.{Network}
 use Rattle.mem_fabric.specs.Past.{calls_of}
-use Rattle.mem_fabric.specs.Played.{Act, Opens, Sends, Orders, Gives, Moves, Fails, acted, MayAct, all_acted, AllMay, move_in, moves_of, DidAll, PlaysBy, Plays, Falls}
+use Rattle.mem_fabric.specs.Played.{Act, Opens, Sends, Orders, Gives, Moves, Fails, acted, MayAct, all_acted, AllMay, move_in, moves_of, DidAll, PlaysBy, Plays}
 use Rattle.mem_fabric.specs.Sound.{State, fresh_state}
 
 acted_on : (n : Network) (later before : List Act) → all_acted n (later ++ before) ≡ all_acted (all_acted n before) later
@@ -39,17 +39,18 @@ by_on before later a l b m c n p q = record {
   network = q.network ∙ ap (λ x. all_acted x later) p.network ∙ sym (acted_on l later before);
 }
 
-pub plays_nothing : (given : List Move) (n : Network) → Plays given n given n
-plays_nothing given n = ([], tt, by_nothing given n)
+pub plays_nothing : (given : List Move) (n : Network) (whole : Bool) → Plays given n given n whole
+plays_nothing given n whole = ([], (λ w. tt), by_nothing given n)
 
-pub plays_on : (a : List Move) (l : Network) (b : List Move) (m : Network) (c : List Move) (n : Network) → Plays a l b m → Plays b m c n → Plays a l c n
-plays_on a l b m c n p q = (q.0 ++ p.0, did_on q.0 p.0 q.1 p.1, by_on p.0 q.0 a l b m c n p.2 q.2)
+both : (x y : Bool) → (x && y) ≡ true → (x ≡ true) × (y ≡ true)
+both true y w = (refl, w)
+both false y w = absurd cc
 
-pub falls_as_plays : (a : List Move) (l : Network) (b : List Move) (m : Network) → Plays a l b m → Falls a l b m
-falls_as_plays a l b m p = (p.0, p.2)
+pub plays_on : (a : List Move) (l : Network) (b : List Move) (m : Network) (c : List Move) (n : Network) (x y : Bool) → Plays a l b m x → Plays b m c n y → Plays a l c n (x && y)
+plays_on a l b m c n x y p q = (q.0 ++ p.0, (λ w. let w' = both x y w in did_on q.0 p.0 (q.1 w'.1) (p.1 w'.0)), by_on p.0 q.0 a l b m c n p.2 q.2)
 
-pub falls_on : (a : List Move) (l : Network) (b : List Move) (m : Network) (c : List Move) (n : Network) → Falls a l b m → Falls b m c n → Falls a l c n
-falls_on a l b m c n p q = (q.0 ++ p.0, by_on p.0 q.0 a l b m c n p.1 q.1)
+pub plays_anyhow : (a : List Move) (l : Network) (b : List Move) (m : Network) (x : Bool) → Plays a l b m x → Plays a l b m false
+plays_anyhow a l b m x p = (p.0, (λ w. absurd cc), p.2)
 
 -- what was never opened told no call
 pub fresh_told : (fresh : Bool) (s : State) (calls : List Called) → (fresh ≡ true → s ≡ fresh_state) → fresh ≡ true → Some (calls_of s.past) ≡ Some calls → calls ≡ []

@@ -20,9 +20,9 @@ where
     B::Disk: Drop,
     ensures { (a b d : MemFabric B M _ _ _) (shape : Shape) (calls : List Called)
         → ⟦<MemFabric<B, M> as Fabric>⟧.fresh a ≡ true
-        → ⟦<MemFabric<B, M> as Fabric>⟧.goes a b
+        → ⟦<MemFabric<B, M> as Fabric>⟧.advances a b true
         → ⟦<MemFabric<B, M> as Fabric>⟧.opened b ≡ Some shape
-        → ⟦<MemFabric<B, M> as Fabric>⟧.goes b d
+        → ⟦<MemFabric<B, M> as Fabric>⟧.advances b d true
         → ⟦<MemFabric<B, M> as Fabric>⟧.told d ≡ Some calls
         → (moves : List Move) × (M.given d.moves ≡ M.given a.moves ++ moves) × IsPlayed shape moves calls × (M.seeds d.moves ≡ M.seeds a.moves) × KeepsBays B.tells B.out B.same a.nodes d.nodes }
 {}

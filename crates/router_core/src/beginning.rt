@@ -1,6 +1,7 @@
 //! How operations begin.
 
 ghost use Rattle.std.specs.Prelude.{◌≡◌, ℕ, ◌+◌, ◌%◌, ◌^◌, ◌<◌, ◌≤◌, List, [], ◌∷◌, length, true, false, Option, Some, None, OnOk, IfOk, IfErr, IfSome};
+ghost use Rattle.std.specs.Result.{is_ok};
 ghost use Rattle.blob_id.specs.declared.id.BlobId.{BlobId};
 ghost use Rattle.blob_id.specs.Id.{partition_of};
 ghost use Rattle.world_model.specs.declared.history.Begun.{Begun};
@@ -8,7 +9,7 @@ ghost use Rattle.world_model.specs.declared.history.HistoryMark.{HistoryMark};
 ghost use Rattle.world_model.specs.declared.history.HistoryMark.TheVariants.{Begin, Drew};
 ghost use Rattle.world_model.specs.declared.shape.Shape.{Shape};
 ghost use Rattle.world_model.specs.declared.step.Called.{Called};
-ghost use Rattle.world_model.specs.Fabric.{KeepsRun};
+ghost use Rattle.world_model.specs.Advancing.{Advances};
 ghost use Rattle.world_model.specs.Pieces.{is_chunk, is_composite, is_simple};
 ghost use Rattle.world_model.specs.Shape.{IsShape};
 ghost use Rattle.router_core.specs.Beginning.{BeginsAs, IsRefused};
@@ -44,11 +45,7 @@ impl Router {
         ensures begun { OnOk result (self.new.begun ≡ self.old.begun + 1) }
         ensures busy { OnOk result (is_idle self.new.stage ≡ false) }
         ensures shape { self.new.shape ≡ self.old.shape }
-        ensures opened { F.opened fabric.new ≡ F.opened fabric.old }
-        ensures later { F.faults fabric.old ≤ F.faults fabric.new }
-        ensures run { (cluster : Shape) (place : List ℕ) → KeepsRun (F.runs fabric.old cluster place) (F.runs fabric.new cluster place) }
-        ensures goes { OnOk result (F.goes fabric.old fabric.new) }
-        ensures falls { F.falls fabric.old fabric.new }
+        ensures net { Advances F.faults F.opened F.runs F.advances fabric.old fabric.new (is_ok result) }
     {
         self.begin_put(alloc, id, body);
         self.settle(alloc, fabric)?;
@@ -105,11 +102,7 @@ impl Router {
         ensures begun { OnOk result (self.new.begun ≡ self.old.begun + 1) }
         ensures busy { OnOk result (is_idle self.new.stage ≡ false) }
         ensures shape { self.new.shape ≡ self.old.shape }
-        ensures opened { F.opened fabric.new ≡ F.opened fabric.old }
-        ensures later { F.faults fabric.old ≤ F.faults fabric.new }
-        ensures run { (cluster : Shape) (place : List ℕ) → KeepsRun (F.runs fabric.old cluster place) (F.runs fabric.new cluster place) }
-        ensures goes { OnOk result (F.goes fabric.old fabric.new) }
-        ensures falls { F.falls fabric.old fabric.new }
+        ensures net { Advances F.faults F.opened F.runs F.advances fabric.old fabric.new (is_ok result) }
     {
         self.begin_get(alloc, id);
         self.settle(alloc, fabric)?;
@@ -145,11 +138,7 @@ impl Router {
         ensures begun { OnOk result (self.new.begun ≡ self.old.begun + 1) }
         ensures busy { OnOk result (is_idle self.new.stage ≡ false) }
         ensures shape { self.new.shape ≡ self.old.shape }
-        ensures opened { F.opened fabric.new ≡ F.opened fabric.old }
-        ensures later { F.faults fabric.old ≤ F.faults fabric.new }
-        ensures run { (cluster : Shape) (place : List ℕ) → KeepsRun (F.runs fabric.old cluster place) (F.runs fabric.new cluster place) }
-        ensures goes { OnOk result (F.goes fabric.old fabric.new) }
-        ensures falls { F.falls fabric.old fabric.new }
+        ensures net { Advances F.faults F.opened F.runs F.advances fabric.old fabric.new (is_ok result) }
     {
         self.begin_delete(alloc, id);
         self.settle(alloc, fabric)?;

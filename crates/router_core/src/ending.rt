@@ -1,11 +1,12 @@
 //! How operations end.
 
-ghost use Rattle.std.specs.Prelude.{◌≡◌, ◌≢◌, ℕ, ◌≤◌, ◌++◌, List, [], Option, true, false, Some, OnOk, IfOk, IfSome, IsNone, ◌↔◌};
+ghost use Rattle.std.specs.Prelude.{◌≡◌, ◌≢◌, ℕ, ◌++◌, List, [], Option, true, false, Some, OnOk, IfOk, IfSome, IsNone, ◌↔◌};
+ghost use Rattle.std.specs.Result.{is_ok};
 ghost use Rattle.quorum_op.specs.declared.outcome.Outcome.TheVariants as outcome;
 ghost use Rattle.world_model.specs.declared.history.HistoryMark.{HistoryMark};
 ghost use Rattle.world_model.specs.declared.shape.Shape.{Shape};
 ghost use Rattle.world_model.specs.declared.step.Called.{Called};
-ghost use Rattle.world_model.specs.Fabric.{KeepsRun};
+ghost use Rattle.world_model.specs.Advancing.{Advances};
 ghost use Rattle.world_model.specs.Shape.{IsShape};
 ghost use Rattle.router_core.specs.declared.live.Live.{Live};
 ghost use Rattle.router_core.specs.declared.router.Stage.TheVariants as variant;
@@ -47,11 +48,7 @@ impl Router {
         ensures answer { IfOk result (λ ended. IfSome ended (λ e. IsAnswer self.old.shape e.outcome)) }
         ensures begun { self.new.begun ≡ self.old.begun }
         ensures shape { self.new.shape ≡ self.old.shape }
-        ensures opened { F.opened fabric.new ≡ F.opened fabric.old }
-        ensures later { F.faults fabric.old ≤ F.faults fabric.new }
-        ensures run { (cluster : Shape) (place : List ℕ) → KeepsRun (F.runs fabric.old cluster place) (F.runs fabric.new cluster place) }
-        ensures goes { OnOk result (F.goes fabric.old fabric.new) }
-        ensures falls { F.falls fabric.old fabric.new }
+        ensures net { Advances F.faults F.opened F.runs F.advances fabric.old fabric.new (is_ok result) }
     {
         self.run(alloc, fabric)?;
         Ok(self.end())
@@ -80,11 +77,7 @@ impl Router {
         ensures idle { is_idle self.new.stage ≡ is_idle self.old.stage }
         ensures begun { self.new.begun ≡ self.old.begun }
         ensures shape { self.new.shape ≡ self.old.shape }
-        ensures opened { F.opened fabric.new ≡ F.opened fabric.old }
-        ensures later { F.faults fabric.old ≤ F.faults fabric.new }
-        ensures run { (cluster : Shape) (place : List ℕ) → KeepsRun (F.runs fabric.old cluster place) (F.runs fabric.new cluster place) }
-        ensures goes { OnOk result (F.goes fabric.old fabric.new) }
-        ensures falls { F.falls fabric.old fabric.new }
+        ensures net { Advances F.faults F.opened F.runs F.advances fabric.old fabric.new (is_ok result) }
     {
         settle_stage(
             &mut self.stage,
@@ -112,11 +105,7 @@ fn settle_stage<F: Fabric>(
     ensures ties { OnOk result ((begun : ℕ) (marks : List HistoryMark) → Ties (At (λ r. OwnsStage shape.now r stage.old) clock events begun) (F.told fabric.old) marks → Ties (At (λ r. RestsStage shape.now r stage.new) clock events begun) (F.told fabric.new) marks) }
     ensures fits { (begun : ℕ) → FitsStage shape.now begun stage.old → FitsStage shape.now begun stage.new }
     ensures idle { is_idle stage.new ≡ is_idle stage.old }
-    ensures opened { F.opened fabric.new ≡ F.opened fabric.old }
-    ensures later { F.faults fabric.old ≤ F.faults fabric.new }
-    ensures run { (cluster : Shape) (place : List ℕ) → KeepsRun (F.runs fabric.old cluster place) (F.runs fabric.new cluster place) }
-    ensures goes { OnOk result (F.goes fabric.old fabric.new) }
-    ensures falls { F.falls fabric.old fabric.new }
+    ensures net { Advances F.faults F.opened F.runs F.advances fabric.old fabric.new (is_ok result) }
 {
     match stage {
         Stage::UnderWay(live) => {
@@ -150,11 +139,7 @@ fn settle_live<F: Fabric>(
     ensures answer { IfOk result (λ over. IfSome over (IsAnswer shape.now)) }
     ensures fits { FitsLive shape.now live.new }
     ensures operation { live.new.operation ≡ live.old.operation }
-    ensures opened { F.opened fabric.new ≡ F.opened fabric.old }
-    ensures later { F.faults fabric.old ≤ F.faults fabric.new }
-    ensures run { (cluster : Shape) (place : List ℕ) → KeepsRun (F.runs fabric.old cluster place) (F.runs fabric.new cluster place) }
-    ensures goes { OnOk result (F.goes fabric.old fabric.new) }
-    ensures falls { F.falls fabric.old fabric.new }
+    ensures net { Advances F.faults F.opened F.runs F.advances fabric.old fabric.new (is_ok result) }
 {
     match live.settle(alloc, shape, clock, events, fabric)? {
         Some(outcome) => {

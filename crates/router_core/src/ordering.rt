@@ -1,12 +1,12 @@
 //! Orders to the network.
 
-ghost use Rattle.std.specs.Prelude.{◌≡◌, ℕ, ◌≤◌, List, ◌∷◌, Some, IfOk, OnOk, IsErrOf};
+ghost use Rattle.std.specs.Prelude.{◌≡◌, List, ◌∷◌, Some, IfOk, IfSome, IsSome, IsNone, OnOk};
+ghost use Rattle.std.specs.Result.{is_ok};
 ghost use Rattle.outside.specs.Causes.{Rose};
-ghost use Rattle.world_model.specs.declared.fabric.SendFault.{SendFault};
 ghost use Rattle.world_model.specs.declared.history.HistoryMark.{HistoryMark};
 ghost use Rattle.world_model.specs.declared.history.HistoryMark.TheVariants.{Ordered};
-ghost use Rattle.world_model.specs.declared.shape.Shape.{Shape};
-ghost use Rattle.world_model.specs.Fabric.{Awaits, KeepsRun, TakesOrder};
+ghost use Rattle.world_model.specs.Advancing.{Advances};
+ghost use Rattle.world_model.specs.Fabric.{Awaits, TakesOrder};
 ghost use Rattle.router_core.specs.Stands.{Stands, is_idle};
 ghost use Rattle.router_core.specs.Ties.{Ties};
 
@@ -16,34 +16,33 @@ use std::alloc::Global;
 use world_model::{Fabric, Order, SendFault, Told};
 
 impl Router {
-    /// Gives the network an order, and takes the events that are queued then, so that an operation under way goes on. A refusal
-    /// leaves all as it was. After `Memory` the order may have been carried out.
+    /// Gives the network an order, and takes the events that are queued then, so that an operation under way goes on. None where the
+    /// network refused it, which leaves all as it was. After an error the order may have been carried out.
     pub fn order<F: Fabric>(
         &mut self,
         alloc: Global,
         order: &Order,
         fabric: &mut F,
-    ) -> Result<Told, SendFault>
+    ) -> Result<Option<Told>, Memory>
         requires open { F.opened fabric.old ≡ Some self.old.shape }
         requires order { TakesOrder (F.opened fabric.old) order.now }
         // The record goes on by what the network did, by the order with its answer, and by the events and what they came to.
-        ensures ties { IfOk result (λ answer. (marks : List HistoryMark) → Ties (Stands self.old) (F.told fabric.old) marks → Ties (Stands self.new) (F.told fabric.new) (Ordered order.now answer ∷ marks)) }
-        ensures taken { OnOk result (Awaits (F.told fabric.new) 0) }
-        ensures failed { IsErrOf result SendFault.Failed → (self.new ≡ self.old) × (F.told fabric.new ≡ F.told fabric.old) }
-        ensures cause { IsErrOf result SendFault.Failed → Rose (F.faults fabric.old) (F.faults fabric.new) }
-        ensures idle { (IsErrOf result SendFault.Memory → ⊥) → is_idle self.new.stage ≡ is_idle self.old.stage }
+        ensures ties { IfOk result (λ answer. IfSome answer (λ told. (marks : List HistoryMark) → Ties (Stands self.old) (F.told fabric.old) marks → Ties (Stands self.new) (F.told fabric.new) (Ordered order.now told ∷ marks))) }
+        ensures taken { IfOk result (λ answer. IsSome answer → Awaits (F.told fabric.new) 0) }
+        ensures failed { IfOk result (λ answer. IsNone answer → (self.new ≡ self.old) × (F.told fabric.new ≡ F.told fabric.old)) }
+        ensures cause { IfOk result (λ answer. IsNone answer → Rose (F.faults fabric.old) (F.faults fabric.new)) }
+        ensures idle { OnOk result (is_idle self.new.stage ≡ is_idle self.old.stage) }
         ensures begun { self.new.begun ≡ self.old.begun }
         ensures shape { self.new.shape ≡ self.old.shape }
-        ensures opened { F.opened fabric.new ≡ F.opened fabric.old }
-        ensures later { F.faults fabric.old ≤ F.faults fabric.new }
-        ensures run { (cluster : Shape) (place : List ℕ) → KeepsRun (F.runs fabric.old cluster place) (F.runs fabric.new cluster place) }
-        ensures goes { (IsErrOf result SendFault.Memory → ⊥) → F.goes fabric.old fabric.new }
-        ensures falls { F.falls fabric.old fabric.new }
+        ensures net { Advances F.faults F.opened F.runs F.advances fabric.old fabric.new (is_ok result) }
     {
-        let told = fabric.admin(order)?;
-        match self.take_queued(alloc, fabric) {
-            Ok(()) => Ok(told),
-            Err(_) => Err(SendFault::Memory),
+        match fabric.admin(order) {
+            Ok(told) => {
+                self.take_queued(alloc, fabric)?;
+                Ok(Some(told))
+            }
+            Err(SendFault::Failed) => Ok(None),
+            Err(SendFault::Memory) => Err(Memory),
         }
     }
 
@@ -55,11 +54,7 @@ impl Router {
         ensures idle { OnOk result (is_idle self.new.stage ≡ is_idle self.old.stage) }
         ensures begun { self.new.begun ≡ self.old.begun }
         ensures shape { self.new.shape ≡ self.old.shape }
-        ensures opened { F.opened fabric.new ≡ F.opened fabric.old }
-        ensures later { F.faults fabric.old ≤ F.faults fabric.new }
-        ensures run { (cluster : Shape) (place : List ℕ) → KeepsRun (F.runs fabric.old cluster place) (F.runs fabric.new cluster place) }
-        ensures goes { OnOk result (F.goes fabric.old fabric.new) }
-        ensures falls { F.falls fabric.old fabric.new }
+        ensures net { Advances F.faults F.opened F.runs F.advances fabric.old fabric.new (is_ok result) }
     {
         'taking: while fabric.queued() > 0 {
             self.turn(alloc, fabric)?;

@@ -1,9 +1,10 @@
 //! Taking events.
 
-ghost use Rattle.std.specs.Prelude.{◌≡◌, ℕ, ◌+◌, ◌^◌, ◌<◌, ◌≤◌, false, List, ◌∷◌, ◌++◌, map, Some, OnOk};
+ghost use Rattle.std.specs.Prelude.{◌≡◌, ℕ, ◌+◌, ◌^◌, ◌<◌, false, List, ◌∷◌, ◌++◌, map, Some, OnOk};
+ghost use Rattle.std.specs.Result.{is_ok};
 ghost use Rattle.world_model.specs.declared.history.HistoryMark.{HistoryMark};
 ghost use Rattle.world_model.specs.declared.shape.Shape.{Shape};
-ghost use Rattle.world_model.specs.Fabric.{KeepsRun};
+ghost use Rattle.world_model.specs.Advancing.{Advances};
 ghost use Rattle.world_model.specs.declared.step.Event.{Event};
 ghost use Rattle.world_model.specs.declared.step.Step.{Step};
 ghost use Rattle.world_model.specs.Notes.{events_in};
@@ -31,11 +32,7 @@ impl Router {
         ensures idle { OnOk result (is_idle self.new.stage ≡ is_idle self.old.stage) }
         ensures begun { self.new.begun ≡ self.old.begun }
         ensures shape { self.new.shape ≡ self.old.shape }
-        ensures opened { F.opened fabric.new ≡ F.opened fabric.old }
-        ensures later { F.faults fabric.old ≤ F.faults fabric.new }
-        ensures run { (cluster : Shape) (place : List ℕ) → KeepsRun (F.runs fabric.old cluster place) (F.runs fabric.new cluster place) }
-        ensures goes { OnOk result (F.goes fabric.old fabric.new) }
-        ensures falls { F.falls fabric.old fabric.new }
+        ensures net { Advances F.faults F.opened F.runs F.advances fabric.old fabric.new (is_ok result) }
     {
         // A count that is full ends as want of memory does.
         let Some(events) = self.events.checked_add(1) else {
@@ -73,11 +70,7 @@ impl Router {
         ensures idle { OnOk result (is_idle self.new.stage ≡ is_idle self.old.stage) }
         ensures begun { self.new.begun ≡ self.old.begun }
         ensures shape { self.new.shape ≡ self.old.shape }
-        ensures opened { F.opened fabric.new ≡ F.opened fabric.old }
-        ensures later { F.faults fabric.old ≤ F.faults fabric.new }
-        ensures run { (cluster : Shape) (place : List ℕ) → KeepsRun (F.runs fabric.old cluster place) (F.runs fabric.new cluster place) }
-        ensures goes { OnOk result (F.goes fabric.old fabric.new) }
-        ensures falls { F.falls fabric.old fabric.new }
+        ensures net { Advances F.faults F.opened F.runs F.advances fabric.old fabric.new (is_ok result) }
     {
         'turning: while matches!(self.stage, Stage::UnderWay(_)) {
             self.turn(alloc, fabric)?;

@@ -14,5 +14,7 @@ pub mod Ordered
 pub mod Safe
 pub mod Told
 pub mod Fabric
+pub mod Advancing
+pub mod AdvancingLaws
 pub mod Schedule
 pub mod Seeds
