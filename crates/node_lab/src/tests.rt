@@ -6,7 +6,7 @@ ghost use Rattle.blob_id.specs.Blob.{IsBlob};
 use super::*;
 use blob_id::{Blob, BlobId, Bytes, Kind, Memory};
 use cell_model::{Ask, Reply};
-use disk_core::{Bays, Disk, FuseBays, MemBays, Pick};
+use disk_core::{Bays, Disk, FuseBays, MemBays, Pick, PlacedFuse};
 use std::alloc::Global;
 use std::process::Abort;
 use std::test::Fail;
@@ -130,7 +130,14 @@ const STEPS: [(Step, Answer); 17] = [
 fn a_node_that_fails_is_down_until_it_is_opened_again(rt: HostRuntime) -> Result<(), Fail> {
     let alloc = rt.alloc();
     let bays = MemBays::new(alloc, Pick::Drop, Vec::new(alloc));
-    let mut nodes = LabNodes::new(alloc, FuseBays::new(bays, 1, 0, 11));
+    // An opening takes 11 calls of a disk.
+    let fuse = PlacedFuse {
+        node: 1,
+        partition: 0,
+        passes: 11,
+        pick: Pick::Drop,
+    };
+    let mut nodes = LabNodes::new(alloc, FuseBays::new(bays, vec![in alloc; fuse]?));
     let shape = Shape {
         nodes: 2,
         replicas: 2,
