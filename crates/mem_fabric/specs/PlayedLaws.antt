@@ -38,7 +38,7 @@ by_nothing given n = record { moves = sym (append-nil given); may = tt; network 
 by_on : (before later : List Act) (a : List GivenMove) (l : Network) (b : List GivenMove) (m : Network) (c : List GivenMove) (n : Network) → PlaysBy before a l b m → PlaysBy later b m c n → PlaysBy (later ++ before) a l c n
 by_on before later a l b m c n p q = record {
   moves = q.moves ∙ ap (λ x. b ++ moves_of x later) p.network ∙ ap (λ x. x ++ moves_of (all_acted l before) later) p.moves ∙ append_assoc a (moves_of l before) (moves_of (all_acted l before) later)
-  ∙ ap (λ x. a ++ x) (sym (moves_on l later before));
+      ∙ ap (λ x. a ++ x) (sym (moves_on l later before));
   may = may_on l later before p.may (subst (λ x. AllMay x later) p.network q.may);
   network = q.network ∙ ap (λ x. all_acted x later) p.network ∙ sym (acted_on l later before);
 }

@@ -37,9 +37,9 @@
 //!
 //! # Not proved
 //!
-//! Why a restart is refused, and by which disk; that `Stuck(Fault)` has its cause in the node's own disks. Once a disk failed in a request, anything of any replica. That want of memory is answered
-//! only where an allocation is refused or a count, of requests, replies or waiting events, reaches 2^32 - 1. No node pulls or
-//! compacts yet.
+//! Why a restart is refused, and by which disk; that `Stuck(Fault)` has its cause in the node's own disks. Once a disk failed
+//! in a request, anything of any replica. That want of memory is answered only where an allocation is refused or a count, of
+//! requests, replies or waiting events, reaches 2^32 - 1. No node pulls or compacts yet.
 #![tactic(auto)]
 
 mod acts;

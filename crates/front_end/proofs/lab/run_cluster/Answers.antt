@@ -63,7 +63,7 @@ returns-clause-run g c =
           let went = starved.1.went in
           let fell = starved.1.fell in
           let all = over_on B.tells D.tells D.content B.home B.out B.same M.given M.seeds M.same opened.moves opened.cluster opened.nodes left.moves left.cluster left.nodes end.moves end.cluster end.nodes false true (g.met.N.Moves.same_on _ _ _) (g.met.A.Bays.same_on _ _ _)
-              (over_on B.tells D.tells D.content B.home B.out B.same M.given M.seeds M.same opened.moves opened.cluster opened.nodes between.moves between.cluster between.nodes left.moves left.cluster left.nodes true false (g.met.N.Moves.same_on _ _ _) (g.met.A.Bays.same_on _ _ _) went.own fell.own) c.close.ensures.net in
+          (over_on B.tells D.tells D.content B.home B.out B.same M.given M.seeds M.same opened.moves opened.cluster opened.nodes between.moves between.cluster between.nodes left.moves left.cluster left.nodes true false (g.met.N.Moves.same_on _ _ _) (g.met.A.Bays.same_on _ _ _) went.own fell.own) c.close.ensures.net in
           let p = c.what_is_told_was_played.ensures old opened between shape (calls_of between.cluster.past) c.requires.fresh c.in-Ok.ensures.net c.in-Ok.ensures.opened went.own refl in
           ran_starved shape disks on.router _ _ _ (network_of old.cluster) (network_of between.cluster) (network_of end.cluster) starved.0 _ _ c.runs_are_safe.ensures on.shaped (p.0, p.1, p.2)
           (runs_on B.tells D.tells D.content D.size D.faults B.home shape folder old.nodes.bays between.nodes (calls_of between.cluster.past) (λ opening held. went.run shape folder opening (c.in-Ok.ensures.run opening (c.requires.holds opening held))))

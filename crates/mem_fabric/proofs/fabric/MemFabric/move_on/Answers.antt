@@ -14,7 +14,7 @@ returns-clause-net g c = record {
     played = plays_next (g.M.Moves.given c.args.self.now.moves) (g.M.Moves.given c.pick-chosen.new.self) (network_of c.args.self.now.cluster) (network_of c.act.new.self) c.pick-chosen.result c.act.result
         (has_shape c.args.self.now.opened c.args.self.now.cluster.shape c.requires.open) c.requires.calm c.act.ensures.does
         (given_there (g.M.Moves.given c.args.self.now.moves) (g.M.Moves.given c.ready.new.self) (g.M.Moves.given c.pick-chosen.new.self) c.args.self.now.cluster c.unwrap-shape.result c.requests.result c.replies.result c.pick-chosen.result
-          c.pick-chosen.ensures.given c.in_ok-ready.ensures.given (sym c.shape.ensures.value ∙ c.unwrap-shape.ensures) c.requests.ensures c.replies.ensures);
+        c.pick-chosen.ensures.given c.in_ok-ready.ensures.given (sym c.shape.ensures.value ∙ c.unwrap-shape.ensures) c.requests.ensures c.replies.ensures);
     same = g.met.M.Moves.same_on c.args.self.now.moves c.ready.new.self c.pick-chosen.new.self c.in_ok-ready.ensures.same c.pick-chosen.ensures.same;
     begun = c.pick-chosen.ensures.seeds ∙ c.in_ok-ready.ensures.seeds;
     bays = c.act.ensures.goes.bays;
