@@ -1,0 +1,13 @@
+pub mod FreshLemmas
+pub mod ReplicaLemmas
+pub mod LayoutLemmas
+pub mod SlotLemmas
+pub mod OpenLemmas
+pub mod AskLemmas
+pub mod SettleLemmas
+pub mod NodeAskLemmas
+pub mod RestartLemmas
+pub mod RunLemmas
+pub mod RefusalLemmas
+pub mod WalkHomeLemmas
+pub mod StopLemmas

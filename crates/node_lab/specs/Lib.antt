@@ -1,0 +1,7 @@
+pub mod Replicas
+pub mod Faults
+pub mod Places
+pub mod Slots
+pub mod Nodes
+pub mod Answers
+pub mod RunPlaces
