@@ -25,9 +25,8 @@ use Rattle.replica_core.proofs.Packing.{asked_layout, asked_packed}
 use Rattle.world_model.specs.World.{Change, MayReply, arriving_change, same_id}
 use Rattle.world_model.proofs.CellLaws.{same_id_true}
 use Rattle.node_lab.specs.Replicas.{AllRepresentEither, LogHasLayout, HoldsOpen, HoldsPlace, HoldsUp, PlaceHasLayout, RepresentsEither, settled}
-use Rattle.node_lab.specs.Nodes.{AsksReplica}
-use Rattle.node_lab.specs.Places.{HoldsHere, IsPackedBy, KnowsLayout, Place, asked_place, is_fault, landed_cells}
-use Rattle.node_lab.specs.Answers.{AnswersBy}
+use Rattle.node_lab.specs.Calls.{AsksReplica}
+use Rattle.node_lab.specs.Places.{AnswersBy, HoldsHere, IsPackedBy, KnowsLayout, Place, asked_place, is_fault, landed_cells}
 use Rattle.node_lab.proofs.ReplicaLemmas.{same_stands, settled_sure}
 
 -- a replica that is down refuses any ask
@@ -46,7 +45,7 @@ down_refuses (Ask.CompactStep records) = tt
 down_refuses Ask.CompactCommit = tt
 
 -- no replica says that it isn't there
-never_none : (ask : Ask) → CanAnswer ask Reply.NoPartition → ⊥
+pub never_none : (ask : Ask) → CanAnswer ask Reply.NoPartition → ⊥
 never_none (Ask.Put id blob) can = can
 never_none (Ask.Get id) can = can
 never_none (Ask.Peek id) can = can
@@ -318,6 +317,8 @@ module _ {D : Type 0} (tells : Type 0) (content : D → Content) (size faults : 
           record {
             says = λ calm. subst (λ (r : Reply). MayReply place.doubt (place.cells (id_of ask)) ask r) (sym said) (may_down place.doubt (place.cells (id_of ask)) all.0);
             sure = λ fault. absurd (let no : Reply.Down ≡ Reply.Fault = sym said ∙ fault in cc);
+            down = λ down. all.0;
+            there = λ none. never_none ask (subst (λ (r : Reply). CanAnswer ask r) none asked.kind);
             pages = subst (λ (r : Reply). PagesCells place.cells r) (sym said) tt;
             packed = λ layout known. absurd (let laid = subst (λ (l : Option Layout). KnowsLayout content settings (Some replica) home l) known holds.layout in let no : replica.down ≡ false = laid.up in cc);
           }
@@ -326,6 +327,8 @@ module _ {D : Type 0} (tells : Type 0) (content : D → Content) (size faults : 
             (⊎_elim (λ (one : Answers (cell_in replica.cells (id_of ask)) ask reply). inl (subst (λ (c : Cell). Answers c ask reply) (up.held (id_of ask)) one))
             (λ (refusal : IsRefusal ask reply). inr (inl (refusal, calm))) (asked.step t).answered);
         sure = λ fault. up.sure;
+        down = λ down. absurd (let no : replica.down ≡ true = asked.refused.0 down in cc);
+        there = λ none. never_none ask (subst (λ (r : Reply). CanAnswer ask r) none asked.kind);
         pages = same_pages (cell_in replica.cells) place.cells up.held reply (asked.step t).pages;
         packed = λ layout known.
             let laid = subst (λ (l : Option Layout). KnowsLayout content settings (Some replica) home l) known holds.layout in

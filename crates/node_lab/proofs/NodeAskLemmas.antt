@@ -7,7 +7,7 @@ use Rattle.std.proofs.lemmas.Bool.{cases_eq}
 use Rattle.cell_model.specs.declared.ask.Ask.{Ask}
 use Rattle.cell_model.specs.declared.ask.Reply.{Reply}
 use Rattle.cell_model.specs.declared.cell.Cell.{Cell}
-use Rattle.cell_model.specs.Asks.{id_of}
+use Rattle.cell_model.specs.Asks.{CanAnswer, id_of}
 use Rattle.cell_model.specs.Cells.{join}
 use Rattle.disk_core.specs.Content.{Content}
 use Rattle.disk_core.specs.Homes.{Home, Out}
@@ -18,10 +18,11 @@ use Rattle.node_core.proofs.PortLemmas.{other_found}
 use Rattle.node_lab.specs.declared.state.NodeState.{NodeState}
 use Rattle.node_lab.specs.declared.state.NodeState.TheVariants.{Up, Stopped}
 use Rattle.node_lab.specs.Replicas.{settings_of}
-use Rattle.node_lab.specs.Nodes.{AsksNodes, AsksPorts, AsksReplica, FailedIn, Holds, HoldsSome, IsFor, IsOpen, NodesState, asked_places, has_replica, ports_at, ports_of, replica_at}
+use Rattle.node_lab.specs.Nodes.{Holds, HoldsSome, IsFor, IsOpen, NodesState, asked_places, has_replica, is_up, ports_at, ports_of, replica_at}
+use Rattle.node_lab.specs.Calls.{AsksNodes, AsksPorts, AsksReplica, FailedIn}
 use Rattle.node_lab.specs.Places.{HoldsAt, HoldsHere, IsBlank, Place, Places, asked_place}
-use Rattle.node_lab.specs.Answers.{AnswersBy}
-use Rattle.node_lab.proofs.AskLemmas.{absent_either, ask_answers, ask_holds}
+use Rattle.node_lab.specs.Places.{AnswersBy}
+use Rattle.node_lab.proofs.AskLemmas.{absent_either, ask_answers, ask_holds, never_none}
 use Rattle.part_log.specs.Log.{disk_size}
 use Rattle.replica_core.specs.State.{IsAsked, ReplicaState}
 use Rattle.replica_core.proofs.Maps.{join_absent}
@@ -146,6 +147,26 @@ module _ {D : Type 0} (tells : Type 0) (content : D → Content) (size faults : 
     ]
   ]
 
+  -- which replicas are open stays
+  pub asked_up : {B : Type 0} (old new : NodesState B D) (node partition : ℕ) → AsksNodes tells content size faults old node partition ask reply new → (n p : ℕ) → is_up new n p ≡ is_up old n p
+  asked_up old new node partition asked n p = ⊎_elim
+      (λ (same : (n ≡ node) × (p ≡ partition)).
+      subst (λ (i : ℕ). is_up new i p ≡ is_up old i p) (sym same.0)
+      (subst (λ (i : ℕ). is_up new node i ≡ is_up old node i) (sym same.1)
+      (asks_up (replica_at old node partition) (replica_at new node partition) asked.here)))
+      (λ (apart : (n ≢ node) ⊎ (p ≢ partition)). ap is_some (asked.others n p apart))
+      (same_or_apart n p node partition)
+
+  -- where none is open, that is said, and only there
+  pub asked_none : (old new : Option (ReplicaState D)) → AsksReplica tells content size faults old ask reply new → is_some old ≡ false → reply ≡ Reply.NoPartition
+  asked_none None new asked none = asked.0
+  asked_none (Some replica) new asked none = absurd (cc none)
+
+  pub asked_some : (old new : Option (ReplicaState D)) → AsksReplica tells content size faults old ask reply new → is_some old ≡ true → CanAnswer ask reply × (reply ≢ Reply.NoPartition)
+  asked_some None new asked some = absurd (cc some)
+  asked_some (Some replica) None asked some = absurd asked
+  asked_some (Some replica) (Some after) asked some = (asked.kind, (λ none. never_none ask (subst (λ (r : Reply). CanAnswer ask r) none asked.kind)))
+
   -- nodes that are open still are
   pub open_asked : {B : Type 0} (bays_tell : Type 0) (home : B → Home D) (out : B → Out) (shape : Shape) (folder : List ℕ) (bays : B) (nodes new : List (NodeState (ReplicaState D))) (node partition : ℕ)
       → AsksNodes tells content size faults (record { shape = Some shape; folder = folder; bays = bays; nodes = nodes }) node partition ask reply (record { shape = Some shape; folder = folder; bays = bays; nodes = new })
@@ -153,8 +174,8 @@ module _ {D : Type 0} (tells : Type 0) (content : D → Content) (size faults : 
   open_asked {B} bays_tell home out shape folder bays nodes new node partition asked long it = record {
     ranges = it.ranges;
     long = long ∙ it.long;
-    due = λ n p some. it.due n p (sym (up n p) ∙ some);
-    outs = λ t n p some. it.outs t n p (sym (up n p) ∙ some);
+    due = λ n p some. it.due n p (sym (asked_up (record { shape = Some shape; folder = folder; bays = bays; nodes = nodes }) (record { shape = Some shape; folder = folder; bays = bays; nodes = new }) node partition asked n p) ∙ some);
+    outs = λ t n p some. it.outs t n p (sym (asked_up (record { shape = Some shape; folder = folder; bays = bays; nodes = nodes }) (record { shape = Some shape; folder = folder; bays = bays; nodes = new }) node partition asked n p) ∙ some);
     places = λ t n p due. ⊎_elim
         (λ (same : (n ≡ node) × (p ≡ partition)).
         let here = asks_some (settings_of shape) (port_in (ports_at nodes node) partition) (port_in (ports_at new node) partition) (home bays folder node partition) asked.here t in
@@ -166,18 +187,9 @@ module _ {D : Type 0} (tells : Type 0) (content : D → Content) (size faults : 
         (λ (apart : (n ≢ node) ⊎ (p ≢ partition)). subst (λ (s : Option (ReplicaState D)). HoldsSome content size (settings_of shape) s (home bays folder n p)) (sym (asked.others n p apart)) (it.places t n p due))
         (same_or_apart n p node partition);
   }
-    where
-      up : (n p : ℕ) → is_some (port_in (ports_at new n) p) ≡ is_some (port_in (ports_at nodes n) p)
-      up n p = ⊎_elim
-          (λ (same : (n ≡ node) × (p ≡ partition)).
-          subst (λ (i : ℕ). is_some (port_in (ports_at new i) p) ≡ is_some (port_in (ports_at nodes i) p)) (sym same.0)
-          (subst (λ (i : ℕ). is_some (port_in (ports_at new node) i) ≡ is_some (port_in (ports_at nodes node) i)) (sym same.1)
-          (asks_up (port_in (ports_at nodes node) partition) (port_in (ports_at new node) partition) asked.here)))
-          (λ (apart : (n ≢ node) ⊎ (p ≢ partition)). ap is_some (asked.others n p apart))
-          (same_or_apart n p node partition)
 
-  module _ {B : Type 0} (home : B → Home D) (out : B → Out) (old new : NodesState B D) (node partition : ℕ) (asked : AsksNodes tells content size faults old node partition ask reply new) (t : tells) where
-    module _ (shape : Shape) (folder : List ℕ) (places : Places) (holds : Holds content home out shape folder places old) where
+  module _ {B : Type 0} (home : B → Home D) (old new : NodesState B D) (node partition : ℕ) (asked : AsksNodes tells content size faults old node partition ask reply new) (t : tells) where
+    module _ (shape : Shape) (folder : List ℕ) (places : Places) (holds : Holds content home shape folder places old) where
       abbrev settings : LogSettings
       settings = settings_of shape
 
@@ -226,7 +238,7 @@ module _ {D : Type 0} (tells : Type 0) (content : D → Content) (size faults : 
           (same_or_apart n p node partition)
 
       -- all places hold what the ask comes to
-      pub places_asked : Holds content home out shape folder (asked_places settings places node partition ask reply) new
+      pub places_asked : Holds content home shape folder (asked_places settings places node partition ask reply) new
       places_asked = record {
         named = subst (λ (f : List ℕ). IsFor shape folder new.shape f) (sym asked.folder) (subst (λ (s : Option Shape). IsFor shape folder s old.folder) (sym asked.shape) holds.named);
         each = λ n p. subst (λ (b : B). HoldsAt content (has_replica shape n p) settings (replica_at new n p) (home b folder n p) (asked_places settings places node partition ask reply n p)) (sym asked.same_bays) (each_place n p);

@@ -19,7 +19,7 @@ use Rattle.node_lab.specs.Faults.{open_fault}
 use Rattle.node_lab.specs.Slots.{FailedAt, IsCause, OpensSlot, ReplicaSlot, StaysClosed}
 use Rattle.node_lab.proofs.ReplicaLemmas.{either_new, either_opened, either_same, image_back}
 use Rattle.node_lab.proofs.LayoutLemmas.{place_laid}
-use Rattle.node_lab.proofs.SlotLemmas.{same_slot}
+use Rattle.node_lab.proofs.SlotLemmas.{same_slot, stays_same}
 
 -- places stay where each of two steps leaves them
 pub others_on : {D : Type 0} (folder : List ℕ) (node partition : ℕ) (home mid_home new_home : Home D) (out mid_out new_out : Out) → OthersStay folder node partition home out mid_home mid_out → OthersStay folder node partition mid_home mid_out new_home new_out → OthersStay folder node partition home out new_home new_out
@@ -47,21 +47,27 @@ module _ {D : Type 0} (tells : Type 0) (content : D → Content) (size : D → �
 
 module _ {D : Type 0} (tells : Type 0) (content : D → Content) (size : D → ℕ) (settings : LogSettings) (folder : List ℕ) (node partition : ℕ) (disk : D) (home : Home D) (out : Out) (mid_home : Home D) (mid_out : Out) (takes : TakesOut tells content size folder node partition (disk_size settings) disk home out mid_home mid_out) where
   -- a replica is open
-  pub opens : (replica : ReplicaState D) → IsOpened content tells settings (home folder node partition) replica
+  pub opens : size disk ≡ disk_size settings → (replica : ReplicaState D) → size replica.log.disk ≡ disk_size settings → IsOpened content tells settings (home folder node partition) replica
       → OpensSlot tells content size settings folder (record { replica = None; home = home folder node partition; out = out node partition }) (record { replica = Some replica; home = mid_home folder node partition; out = mid_out node partition })
-  opens replica opened = record {
+  opens asked replica bytes opened = record {
     was_in = takes.was_in;
+    fits = λ kept at. sym (takes.same kept at).bytes ∙ asked;
     replica = replica;
     is = same_slot (Some replica) (Some replica) None (mid_home folder node partition) (Some folder) (mid_out node partition) refl takes.left takes.is_out;
+    bytes = bytes;
     opened = opened;
   }
 
   -- the disk went home again
-  pub goes_back : (left : D) (new_home : Home D) (new_out : Out) → PutsHome tells content size folder node partition left mid_home mid_out new_home new_out → (tells → ChangesBy (OpensLog settings) (content disk) (content left)) → (tells → OpensLog settings (content disk).seen (content left).seen)
+  pub goes_back : (left : D) → size left ≡ disk_size settings → (new_home : Home D) (new_out : Out) → PutsHome tells content size folder node partition left mid_home mid_out new_home new_out → (tells → ChangesBy (OpensLog settings) (content disk) (content left)) → (tells → OpensLog settings (content disk).seen (content left).seen)
       → StaysClosed tells content size settings (record { replica = None; home = home folder node partition; out = out node partition }) (record { replica = None; home = new_home folder node partition; out = new_out node partition })
-  goes_back left new_home new_out puts changes sees = record {
+  goes_back left sized new_home new_out puts changes sees = record {
     replica = refl;
     out = puts.is_in ∙ sym takes.was_in;
+    bytes = λ was kept at.
+        let both : ◌≡◌ {A = Option D} (Some puts.kept) (Some kept) = sym puts.at_home ∙ at in
+        let same : puts.kept ≡ kept = cc both in
+        subst (λ (d : D). size d ≡ disk_size settings) same (puts.same.bytes ∙ sized);
     keeps = λ t cells doubt holds.
         subst (λ (h : Option D). HoldsPlace content settings None h cells doubt) (sym puts.at_home)
         (either_same settings (content left) (content puts.kept) cells doubt (image_back (content left) (content puts.kept) (puts.same.told t))
@@ -72,15 +78,6 @@ module _ {D : Type 0} (tells : Type 0) (content : D → Content) (size : D → �
         place_laid content settings left puts.kept (new_home folder node partition) layout puts.at_home (puts.same.told t).seen
         ((sees t).layout layout (subst (λ (l : List ℕ). IsLaidOut settings l layout) (sym taken) laid));
   }
-
--- a slot that stays
-stays_same : {D : Type 0} (tells : Type 0) (content : D → Content) (size : D → ℕ) (settings : LogSettings) (old new : ReplicaSlot D) → new ≡ old → StaysClosed tells content size settings old new
-stays_same {D} tells content size settings old new same = record {
-  replica = ap (λ (s : ReplicaSlot D). s.replica) same;
-  out = ap (λ (s : ReplicaSlot D). s.out) same;
-  keeps = λ t cells doubt holds. subst (λ (s : ReplicaSlot D). HoldsPlace content settings s.replica s.home cells doubt) (sym same) holds;
-  layout = λ t layout laid. subst (λ (s : ReplicaSlot D). PlaceHasLayout content settings s.replica s.home layout) (sym same) laid;
-}
 
 -- the bays refused
 pub refused_stays : {D : Type 0} (tells : Type 0) (content : D → Content) (size : D → ℕ) (settings : LogSettings) (folder : List ℕ) (node partition : ℕ) (home new_home : Home D) (out new_out : Out) → Stays home out new_home new_out

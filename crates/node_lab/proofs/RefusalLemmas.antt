@@ -12,7 +12,8 @@ use Rattle.world_model.specs.declared.order.What.{What}
 use Rattle.world_model.specs.declared.shape.Shape.{Shape}
 use Rattle.node_lab.specs.declared.state.NodeState.{NodeState}
 use Rattle.node_lab.specs.Replicas.{HoldsPlace, found, settled, settings_of}
-use Rattle.node_lab.specs.Nodes.{HoldsSome, IsFirst, IsOpen, has_replica, ports_at}
+use Rattle.node_lab.specs.Nodes.{HoldsSome, IsOpen, has_replica, is_of_node, ports_at}
+use Rattle.node_lab.specs.Refusals.{IsFirst}
 use Rattle.node_lab.specs.Slots.{IsCause}
 use Rattle.node_lab.proofs.FreshLemmas.{empty_cells, new_stands}
 use Rattle.part_log.proofs.Damage.{names_its_own, undamaged}
@@ -32,7 +33,7 @@ both_true false b is = absurd (cc is)
 -- no place of a node that was open before is refused
 pub open_never : {B D : Type 0} (bays_tell tells : Type 0) (content : D → Content) (size : D → ℕ) (home : B → Home D) (out : B → Out) (shape : Shape) (folder : List ℕ) (bays : B) (nodes : List (NodeState (ReplicaState D))) (node : ℕ) (refusal : Refusal) → tells
     → IsOpen bays_tell tells content size home out shape folder bays nodes → ((p : ℕ) → port_in (ports_at nodes node) p ≡ None) → refusal.node ≡ node
-    → IsFirst tells content size (λ n p. (n == node) && has_replica shape n p) (settings_of shape) (home bays folder) refusal → ⊥
+    → IsFirst tells content size (is_of_node shape node) (settings_of shape) (home bays folder) refusal → ⊥
 open_never {B} {D} bays_tell tells content size home out shape folder bays nodes node refusal t it stopped same first =
     let due = both_true (refusal.node == node) (has_replica shape refusal.node refusal.partition) first.due_there in
     let none : port_in (ports_at nodes refusal.node) refusal.partition ≡ None = subst (λ (n : ℕ). port_in (ports_at nodes n) refusal.partition ≡ None) (sym same) (stopped refusal.partition) in

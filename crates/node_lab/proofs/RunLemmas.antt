@@ -11,7 +11,7 @@ use Rattle.cell_model.specs.Asks.{brought, id_of, landed}
 use Rattle.cell_model.specs.Cells.{join}
 use Rattle.cell_model.specs.Pages.{PagesCells}
 use Rattle.disk_core.specs.Content.{Content}
-use Rattle.disk_core.specs.Homes.{Home, Out}
+use Rattle.disk_core.specs.Homes.{Home}
 use Rattle.log_manifest.specs.declared.manifest.LogSettings.{LogSettings}
 use Rattle.part_log.specs.Layout.{Layout}
 use Rattle.replica_core.specs.State.{ReplicaState, packed_by}
@@ -20,11 +20,13 @@ use Rattle.world_model.specs.declared.shape.Shape.{Shape}
 use Rattle.world_model.specs.declared.step.Step.TheVariants as steps
 use Rattle.world_model.specs.Record.{Item, Record, Took}
 use Rattle.world_model.specs.World.{Call, Cells, Change, MayReply, MayRun, MayTear, Run, World, after, arriving_call, arriving_change, call_at, doubt_call, is_call_at, same_id, world}
-use Rattle.node_lab.specs.Answers.{AnswersBy}
+use Rattle.node_lab.specs.Places.{AnswersBy}
 use Rattle.node_lab.specs.Replicas.{HoldsPlace, settings_of}
 use Rattle.node_lab.specs.RunPlaces.{AllPacked, IsCallPacked, Known, LeadsTo, called_layouts, item_layouts, layouts_after, places_after, places_of}
-use Rattle.node_lab.specs.Nodes.{AsksNodes, AsksReplica, Holds, NodesState, asked_places, has_replica, is_up, replica_at, settled_places}
+use Rattle.node_lab.specs.Nodes.{Holds, NodesState, asked_places, has_replica, is_up, replica_at, settled_places}
+use Rattle.node_lab.specs.Calls.{AsksNodes, AsksReplica}
 use Rattle.node_lab.specs.Places.{HoldsAt, KnowsLayout, Place, Places, asked_place, is_fault, landed_at, landed_cells, settled_place}
+use Rattle.world_model.proofs.CellLaws.{number_true}
 use Rattle.node_lab.proofs.AskLemmas.{is_fault_true, place_same}
 use Rattle.node_lab.proofs.NodeAskLemmas.{place_answers, places_asked}
 
@@ -42,8 +44,8 @@ module _ {D : Type 0} (content : D → Content) (settings : LogSettings) where
     layout = subst (λ (l : Option Layout). KnowsLayout content settings slot home l) (sym same.layout) was.layout;
   }
 
-module _ {B D : Type 0} (content : D → Content) (home : B → Home D) (out : B → Out) where
-  pub holds_same : (shape : Shape) (folder : List ℕ) (f h : Places) (nodes : NodesState B D) → ((n p : ℕ) → SamePlace (f n p) (h n p)) → Holds content home out shape folder f nodes → Holds content home out shape folder h nodes
+module _ {B D : Type 0} (content : D → Content) (home : B → Home D) where
+  pub holds_same : (shape : Shape) (folder : List ℕ) (f h : Places) (nodes : NodesState B D) → ((n p : ℕ) → SamePlace (f n p) (h n p)) → Holds content home shape folder f nodes → Holds content home shape folder h nodes
   holds_same shape folder f h nodes same holds = record {
     named = holds.named;
     each = λ n p. at_same content (settings_of shape) (has_replica shape n p) (replica_at nodes n p) (home nodes.bays folder n p) (f n p) (h n p) (same n p) (holds.each n p);
@@ -107,37 +109,43 @@ module _ (settings : LogSettings) (w : World) (known : Known) (send : ℕ) (call
       go false at = subst (λ (x : Place). SamePlace x (places_of (after w torn_item) (item_layouts settings w known torn_item) n p)) (sym (chosen false true at fault)) (record { cells = λ id. join_absent (w.cells n p id); doubt = doubts false at; layout = forgets false at })
 
 -- a restart
-module _ (settings : LogSettings) (w : World) (known : Known) (node : ℕ) (told : List ℕ) (landed : ℕ → Bool) (says : (p : ℕ) → list_any (λ q. q == p) told ≡ landed p) (n p : ℕ) where
+module _ (settings : LogSettings) (w : World) (known : Known) (node : ℕ) (told : List ℕ) (landed : ℕ → ℕ → Bool) (says : (p : ℕ) → list_any (λ q. q == p) told ≡ landed node p) (n p : ℕ) where
   abbrev again : Item
   again = Took (steps.Restart node told)
 
-  comes : (b l : Bool) → (n == node) ≡ b → landed p ≡ l → (id : BlobId) → (after w again).cells n p id ≡ join (w.cells n p id) (cond (b && l) (arriving_change (w.doubts n p) id) Absent)
-  comes b l at is id =
-      ap (λ (x : Bool). join (w.cells n p id) (cond (x && list_any (λ q. q == p) told) (arriving_change (w.doubts n p) id) Absent)) at
-      ∙ ap (λ (x : Bool). join (w.cells n p id) (cond (b && x) (arriving_change (w.doubts n p) id) Absent)) (says p ∙ is)
+  told_here : (n == node) ≡ true → list_any (λ q. q == p) told ≡ landed n p
+  told_here at = says p ∙ ap (λ (i : ℕ). landed i p) (sym (number_true n node at))
 
-  restart_same : SamePlace (settled_places (places_of w known) node landed n p) (places_of (after w again) (item_layouts settings w known again) n p)
-  restart_same = go (n == node) refl (landed p) refl
+  comes : (b l : Bool) → (n == node) ≡ b → (b ≡ true → list_any (λ q. q == p) told ≡ l) → (id : BlobId) → (after w again).cells n p id ≡ join (w.cells n p id) (cond (b && l) (arriving_change (w.doubts n p) id) Absent)
+  comes b l at is id =
+      ap (λ (x : Bool). join (w.cells n p id) (cond (x && list_any (λ q. q == p) told) (arriving_change (w.doubts n p) id) Absent)) at ∙ go b is
     where
-      picked : (b l : Bool) → (n == node) ≡ b → landed p ≡ l → settled_places (places_of w known) node landed n p ≡ cond b (settled_place l (places_of w known n p)) (places_of w known n p)
+      go : (b : Bool) → (b ≡ true → list_any (λ q. q == p) told ≡ l) → join (w.cells n p id) (cond (b && list_any (λ q. q == p) told) (arriving_change (w.doubts n p) id) Absent) ≡ join (w.cells n p id) (cond (b && l) (arriving_change (w.doubts n p) id) Absent)
+      go true is = ap (λ (x : Bool). join (w.cells n p id) (cond x (arriving_change (w.doubts n p) id) Absent)) (is refl)
+      go false is = refl
+
+  restart_same : SamePlace (settled_places (λ i. i == node) landed (places_of w known) n p) (places_of (after w again) (item_layouts settings w known again) n p)
+  restart_same = go (n == node) refl (landed n p) refl
+    where
+      picked : (b l : Bool) → (n == node) ≡ b → landed n p ≡ l → settled_places (λ i. i == node) landed (places_of w known) n p ≡ cond b (settled_place l (places_of w known n p)) (places_of w known n p)
       picked b l at is =
-          ap (λ (x : Bool). cond x (settled_place (landed p) (places_of w known n p)) (places_of w known n p)) at
+          ap (λ (x : Bool). cond x (settled_place (landed n p) (places_of w known n p)) (places_of w known n p)) at
           ∙ ap (λ (x : Bool). cond b (settled_place x (places_of w known n p)) (places_of w known n p)) is
 
       gone : (b : Bool) → (n == node) ≡ b → (after w again).doubts n p ≡ cond b None (w.doubts n p)
       gone b at = ap (λ (x : Bool). cond x None (w.doubts n p)) at
 
-      go : (b : Bool) → (n == node) ≡ b → (l : Bool) → landed p ≡ l → SamePlace (settled_places (places_of w known) node landed n p) (places_of (after w again) (item_layouts settings w known again) n p)
-      go true at true is = subst (λ (x : Place). SamePlace x (places_of (after w again) (item_layouts settings w known again) n p)) (sym (picked true true at is)) (record { cells = comes true true at is; doubt = gone true at; layout = refl })
-      go true at false is = subst (λ (x : Place). SamePlace x (places_of (after w again) (item_layouts settings w known again) n p)) (sym (picked true false at is)) (record { cells = λ id. comes true false at is id ∙ join_absent (w.cells n p id); doubt = gone true at; layout = refl })
-      go false at l is = subst (λ (x : Place). SamePlace x (places_of (after w again) (item_layouts settings w known again) n p)) (sym (picked false l at is)) (record { cells = λ id. comes false l at is id ∙ join_absent (w.cells n p id); doubt = gone false at; layout = refl })
+      go : (b : Bool) → (n == node) ≡ b → (l : Bool) → landed n p ≡ l → SamePlace (settled_places (λ i. i == node) landed (places_of w known) n p) (places_of (after w again) (item_layouts settings w known again) n p)
+      go true at true is = subst (λ (x : Place). SamePlace x (places_of (after w again) (item_layouts settings w known again) n p)) (sym (picked true true at is)) (record { cells = comes true true at (λ yes. told_here at ∙ is); doubt = gone true at; layout = refl })
+      go true at false is = subst (λ (x : Place). SamePlace x (places_of (after w again) (item_layouts settings w known again) n p)) (sym (picked true false at is)) (record { cells = λ id. comes true false at (λ yes. told_here at ∙ is) id ∙ join_absent (w.cells n p id); doubt = gone true at; layout = refl })
+      go false at l is = subst (λ (x : Place). SamePlace x (places_of (after w again) (item_layouts settings w known again) n p)) (sym (picked false l at is)) (record { cells = λ id. comes false l at (λ yes. absurd (cc yes)) id ∙ join_absent (w.cells n p id); doubt = gone false at; layout = refl })
 
 -- the step that is told of a request that was run
 abbrev pub run_item : ℕ → Reply → Item
 run_item send reply = Took (cond (is_fault reply) (steps.Torn send) (steps.Exec send reply))
 
-module _ {B D : Type 0} (tells : Type 0) (content : D → Content) (size faults : D → ℕ) (home : B → Home D) (out : B → Out) (shape : Shape) (folder : List ℕ) (opening : Cells) (first : Known) (before : Record) (old new : NodesState B D) (t : tells)
-    (leads : LeadsTo content home out shape folder opening first before old) where
+module _ {B D : Type 0} (tells : Type 0) (content : D → Content) (size faults : D → ℕ) (home : B → Home D) (shape : Shape) (folder : List ℕ) (opening : Cells) (first : Known) (before : Record) (old new : NodesState B D) (t : tells)
+    (leads : LeadsTo content home shape folder opening first before old) where
   abbrev settings : LogSettings
   settings = settings_of shape
 
@@ -153,8 +161,8 @@ module _ {B D : Type 0} (tells : Type 0) (content : D → Content) (size faults 
   -- A request that was run leads on: told as torn, with what it asked in doubt at that replica alone, or as it was answered.
   module _ (send : ℕ) (call : Call) (reply : Reply) (sent : call_at w send ≡ Some call) (asked : AsksNodes tells content size faults old call.node call.partition call.ask reply new)
       (running : w.stopped call.node ≡ false) (up : has_replica shape call.node call.partition ≡ true → is_up old call.node call.partition ≡ true) where
-    held : Holds content home out shape folder (asked_places settings now call.node call.partition call.ask reply) new
-    held = places_asked tells content size faults call.ask reply home out old new call.node call.partition asked t shape folder now leads.holds
+    held : Holds content home shape folder (asked_places settings now call.node call.partition call.ask reply) new
+    held = places_asked tells content size faults call.ask reply home old new call.node call.partition asked t shape folder now leads.holds
 
     -- a place that the shape doesn't have says so
     says_none : is_some (replica_at old call.node call.partition) ≡ false → reply ≡ Reply.NoPartition
@@ -165,7 +173,7 @@ module _ {B D : Type 0} (tells : Type 0) (content : D → Content) (size faults 
         go (Some replica) none h = absurd (cc none)
 
     answers : has_replica shape call.node call.partition ≡ true → AnswersBy settings (now call.node call.partition) call.ask reply
-    answers due = place_answers tells content size faults call.ask reply home out old new call.node call.partition asked t shape folder now leads.holds (up due)
+    answers due = place_answers tells content size faults call.ask reply home old new call.node call.partition asked t shape folder now leads.holds (up due)
 
     unsaid : has_replica shape call.node call.partition ≡ false → (reply ≡ Reply.NoPartition) × (w.doubts call.node call.partition ≡ None)
     unsaid due =
@@ -196,37 +204,41 @@ module _ {B D : Type 0} (tells : Type 0) (content : D → Content) (size faults 
         go true due = record { sent = sent; running = running; sure = (answers due).sure (is_fault_true reply fault) }
         go false due = absurd (let by = unsaid due in let no : is_fault Reply.NoPartition ≡ true = subst (λ (r : Reply). is_fault r ≡ true) by.0 fault in cc)
 
-    pub ask_leads : LeadsTo content home out shape folder opening first (run_item send reply ∷ before) new
+    pub ask_leads : LeadsTo content home shape folder opening first (run_item send reply ∷ before) new
     ask_leads = go (is_fault reply) refl
       where
-        go : (f : Bool) → is_fault reply ≡ f → LeadsTo content home out shape folder opening first (run_item send reply ∷ before) new
-        go false calm = subst (λ (f : Bool). LeadsTo content home out shape folder opening first (Took (cond f (steps.Torn send) (steps.Exec send reply)) ∷ before) new) (sym calm) (record {
+        go : (f : Bool) → is_fault reply ≡ f → LeadsTo content home shape folder opening first (run_item send reply ∷ before) new
+        go false calm = subst (λ (f : Bool). LeadsTo content home shape folder opening first (Took (cond f (steps.Torn send) (steps.Exec send reply)) ∷ before) new) (sym calm) (record {
           run = (leads.run, (call, may_run calm));
           packed = (leads.packed, subst (λ (c : Option Call). IsCallPacked shape now c reply) (sym sent) (λ due. (answers due).packed));
-          holds = holds_same content home out shape folder (asked_places settings now call.node call.partition call.ask reply) (places_after settings opening first (Took (steps.Exec send reply) ∷ before)) new (λ n p. ran_same settings w known send call reply sent n p calm) held;
+          holds = holds_same content home shape folder (asked_places settings now call.node call.partition call.ask reply) (places_after settings opening first (Took (steps.Exec send reply) ∷ before)) new (λ n p. ran_same settings w known send call reply sent n p calm) held;
         })
-        go true fault = subst (λ (f : Bool). LeadsTo content home out shape folder opening first (Took (cond f (steps.Torn send) (steps.Exec send reply)) ∷ before) new) (sym fault) (record {
+        go true fault = subst (λ (f : Bool). LeadsTo content home shape folder opening first (Took (cond f (steps.Torn send) (steps.Exec send reply)) ∷ before) new) (sym fault) (record {
           run = (leads.run, (call, may_tear fault));
           packed = (leads.packed, tt);
-          holds = holds_same content home out shape folder (asked_places settings now call.node call.partition call.ask reply) (places_after settings opening first (Took (steps.Torn send) ∷ before)) new (λ n p. torn_same settings w known send call reply sent n p fault) held;
+          holds = holds_same content home shape folder (asked_places settings now call.node call.partition call.ask reply) (places_after settings opening first (Took (steps.Torn send) ∷ before)) new (λ n p. torn_same settings w known send call reply sent n p fault) held;
         })
+
+  -- what a restart settles, as the replicas show
+  abbrev pub shown : ℕ → ℕ → Bool
+  shown n p = landed_at (w.doubts n p) (replica_at new n p)
 
   -- A restart leads on: it is told which changes in doubt took effect.
   pub restart_leads : (node : ℕ) (done : List ℕ) → w.stopped node ≡ true → ((p : ℕ) → list_any (λ q. q == p) done ≡ landed_at (w.doubts node p) (replica_at new node p))
-      → Holds content home out shape folder (settled_places now node (λ p. landed_at (w.doubts node p) (replica_at new node p))) new
-      → LeadsTo content home out shape folder opening first (Took (steps.Restart node done) ∷ before) new
+      → Holds content home shape folder (settled_places (λ n. n == node) (λ n p. landed_at (w.doubts n p) (replica_at new n p)) now) new
+      → LeadsTo content home shape folder opening first (Took (steps.Restart node done) ∷ before) new
   restart_leads node done stopped says held = record {
     run = (leads.run, stopped);
     packed = (leads.packed, tt);
-    holds = holds_same content home out shape folder (settled_places now node (λ p. landed_at (w.doubts node p) (replica_at new node p))) (places_after settings opening first (Took (steps.Restart node done) ∷ before)) new
-        (restart_same settings w known node done (λ p. landed_at (w.doubts node p) (replica_at new node p)) says) held;
+    holds = holds_same content home shape folder (settled_places (λ n. n == node) shown now) (places_after settings opening first (Took (steps.Restart node done) ∷ before)) new
+        (restart_same settings w known node done shown says) held;
   }
 
   -- a stop leads on
-  pub stop_leads : (node : ℕ) → Holds content home out shape folder now new → LeadsTo content home out shape folder opening first (Took (steps.Stop node) ∷ before) new
+  pub stop_leads : (node : ℕ) → Holds content home shape folder now new → LeadsTo content home shape folder opening first (Took (steps.Stop node) ∷ before) new
   stop_leads node held = record {
     run = (leads.run, tt);
     packed = (leads.packed, tt);
-    holds = holds_same content home out shape folder now (places_after settings opening first (Took (steps.Stop node) ∷ before)) new
+    holds = holds_same content home shape folder now (places_after settings opening first (Took (steps.Stop node) ∷ before)) new
         (λ n p. record { cells = λ id. join_absent (w.cells n p id); doubt = refl; layout = refl }) held;
   }

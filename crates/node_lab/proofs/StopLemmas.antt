@@ -13,7 +13,9 @@ use Rattle.world_model.specs.declared.shape.Shape.{Shape}
 use Rattle.world_model.proofs.CellLaws.{number_true, same_number}
 use Rattle.node_lab.specs.declared.state.NodeState.{NodeState}
 use Rattle.node_lab.specs.Replicas.{HoldsPlace, settings_of}
-use Rattle.node_lab.specs.Nodes.{ClosesNodes, HoldsSome, IsOpen, NodesState, OtherNodesStay, PortsOut, has_replica, ports_at, ports_of, replica_at, slot_at}
+use Rattle.node_lab.specs.Nodes.{HoldsSome, IsOpen, NodesState, has_replica, ports_at, ports_of, replica_at, slot_at}
+use Rattle.node_lab.specs.Calls.{ClosesNodes, PortsOut}
+use Rattle.node_lab.specs.Slots.{OtherNodesStay}
 use Rattle.node_lab.specs.Slots.{GoesHome, ClosesWhere, Keeps, OtherFoldersStay, ReplicaSlot, WentHome}
 use Rattle.node_lab.proofs.NodeAskLemmas.{ports_other, ports_set}
 use Rattle.node_lab.proofs.SlotLemmas.{same_slot}
@@ -51,12 +53,12 @@ module _ {B D : Type 0} (bays_tell tells : Type 0) (content : D → Content) (si
   others_same (suc k) p other = ap (λ (o : Option (NodeState (ReplicaState D))). port_in (ports_of o) p) (ports_other nodes place k x (λ same. other (omega (arith, same, next))))
 
   -- the slot of the node itself
-  pub slot_here : bays_tell → (p : ℕ) → GoesHome tells content size stops (replica_at at_first node p) (slot_at content home out folder at_first node p) (slot_at content home out folder at_last node p)
+  pub slot_here : bays_tell → (p : ℕ) → GoesHome tells content size stops (replica_at at_first node p) (slot_at home out folder at_first node p) (slot_at home out folder at_last node p)
   slot_here t p =
-      subst (λ (s : Option (ReplicaState D)). GoesHome tells content size stops (replica_at at_first node p) (slot_at content home out folder at_first node p) (record { replica = s; home = home new_bays folder node p; out = out new_bays node p })) (sym (here_none p))
+      subst (λ (s : Option (ReplicaState D)). GoesHome tells content size stops (replica_at at_first node p) (slot_at home out folder at_first node p) (record { replica = s; home = home new_bays folder node p; out = out new_bays node p })) (sym (here_none p))
       (subst (λ (n : ℕ). GoesHome tells content size stops (replica_at at_first n p) (record { replica = replica_at at_first n p; home = home bays folder node p; out = out bays node p }) (record { replica = None; home = home new_bays folder node p; out = out new_bays node p })) (sym next) (slots t p))
 
-  pub slot_other : bays_tell → (n p : ℕ) → n ≢ node → slot_at content home out folder at_last n p ≡ slot_at content home out folder at_first n p
+  pub slot_other : bays_tell → (n p : ℕ) → n ≢ node → slot_at home out folder at_last n p ≡ slot_at home out folder at_first n p
   slot_other t n p other =
       same_slot (replica_at at_first n p) (replica_at at_last n p) (home bays folder n p) (home new_bays folder n p) (out bays n p) (out new_bays n p) (others_same n p other) ((others t).homes folder n p (inr other)) ((others t).outs n p other)
 
@@ -68,9 +70,9 @@ module _ {B D : Type 0} (bays_tell tells : Type 0) (content : D → Content) (si
       | inr other ↦ others_same n p other ∙ ap (λ (b : Bool). cond b None (replica_at at_first n p)) (sym (not_same n node other))
     ];
     slots = λ t n p. elim (cases_eq n node) [
-      | inl same ↦ subst (λ (i : ℕ). ClosesWhere tells content size (i == node) stops (slot_at content home out folder at_first i p) (slot_at content home out folder at_last i p)) (sym same)
-          (subst (λ (b : Bool). ClosesWhere tells content size b stops (slot_at content home out folder at_first node p) (slot_at content home out folder at_last node p)) (sym (same_number node)) (slot_here t p))
-      | inr other ↦ subst (λ (b : Bool). ClosesWhere tells content size b stops (slot_at content home out folder at_first n p) (slot_at content home out folder at_last n p)) (sym (not_same n node other)) (slot_other t n p other)
+      | inl same ↦ subst (λ (i : ℕ). ClosesWhere tells content size (i == node) stops (slot_at home out folder at_first i p) (slot_at home out folder at_last i p)) (sym same)
+          (subst (λ (b : Bool). ClosesWhere tells content size b stops (slot_at home out folder at_first node p) (slot_at home out folder at_last node p)) (sym (same_number node)) (slot_here t p))
+      | inr other ↦ subst (λ (b : Bool). ClosesWhere tells content size b stops (slot_at home out folder at_first n p) (slot_at home out folder at_last n p)) (sym (not_same n node other)) (slot_other t n p other)
     ];
     folders = λ t f n p other. (others t).homes f n p (inl other);
     shape = refl;
@@ -111,7 +113,7 @@ module _ {B D : Type 0} (bays_tell tells : Type 0) (content : D → Content) (si
     ];
     places = λ t n p due. elim (cases_eq n node) [
       | inl same ↦ subst (λ (i : ℕ). HoldsSome content size (settings_of s) (replica_at at_last i p) (home new_bays folder i p)) (sym same)
-          (some_on (settings_of s) (slot_at content home out folder at_first node p) (slot_at content home out folder at_last node p) t (slot_here (known t) p)
+          (some_on (settings_of s) (slot_at home out folder at_first node p) (slot_at home out folder at_last node p) t (slot_here (known t) p)
           (subst (λ (i : ℕ). HoldsSome content size (settings_of s) (replica_at at_first i p) (home bays folder i p)) same (it.places t n p due)))
       | inr other ↦ subst (λ (q : ReplicaSlot D). HoldsSome content size (settings_of s) q.replica q.home) (sym (slot_other (known t) n p other)) (it.places t n p due)
     ];

@@ -9,7 +9,8 @@ use Rattle.disk_core.specs.Homes.{Home, Out, OthersStay}
 use Rattle.node_core.specs.Ports.{port_in}
 use Rattle.replica_core.specs.State.{ReplicaState}
 use Rattle.world_model.proofs.CellLaws.{number_true, same_number}
-use Rattle.node_lab.specs.Nodes.{OtherNodesStay, PortsOut}
+use Rattle.node_lab.specs.Calls.{PortsOut}
+use Rattle.node_lab.specs.Slots.{OtherNodesStay}
 use Rattle.node_lab.specs.Slots.{GoesHome, ReplicaSlot}
 
 module _ {P : Type 0} where

@@ -3,5 +3,7 @@ pub mod Faults
 pub mod Places
 pub mod Slots
 pub mod Nodes
-pub mod Answers
+pub mod Refusals
+pub mod Calls
 pub mod RunPlaces
+pub mod Openings

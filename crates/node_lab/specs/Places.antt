@@ -1,5 +1,5 @@
 -- What each replica holds: the cells, a change in doubt, and the layout of its log.
-use Rattle.std.specs.Prelude.{◌≡◌, ℕ, Bool, true, false, ◌&&◌, ◌||◌, ◌==◌, not, cond, Option, Some, None}
+use Rattle.std.specs.Prelude.{◌≡◌, ◌≢◌, ℕ, Bool, true, false, ◌&&◌, ◌||◌, ◌==◌, not, cond, Option, Some, None, IsSome}
 use Rattle.std.specs.Option.{option_map}
 use Rattle.blob_id.specs.declared.id.BlobId.{BlobId}
 use Rattle.cell_model.specs.declared.ask.Ask.{Ask}
@@ -9,12 +9,13 @@ use Rattle.cell_model.specs.declared.cell.Cell.{Cell}
 use Rattle.cell_model.specs.declared.cell.Cell.TheVariants.{Absent, Held, Gone}
 use Rattle.cell_model.specs.Asks.{brought, id_of, landed}
 use Rattle.cell_model.specs.Cells.{cell_in, join}
+use Rattle.cell_model.specs.Pages.{PagesCells}
 use Rattle.disk_core.specs.Content.{Content}
 use Rattle.log_manifest.specs.declared.manifest.LogSettings.{LogSettings}
 use Rattle.node_lab.specs.Replicas.{HoldsPlace, PlaceHasLayout, settled}
 use Rattle.part_log.specs.Layout.{Layout}
 use Rattle.replica_core.specs.State.{IsPacked, ReplicaState, packed_by}
-use Rattle.world_model.specs.World.{Change, same_id}
+use Rattle.world_model.specs.World.{Change, MayReply, same_id}
 
 -- What a replica holds: its cells, what may have been joined to them beside, and the layout of its log, as long as it is known: a fault leaves it open.
 pub record Place : Type 0 where
@@ -90,3 +91,12 @@ module _ {D : Type 0} (content : D → Content) where
 -- An ask of a place is full exactly where its record has no place in the layout, where that is known, unless memory runs out.
 abbrev pub IsPackedBy : LogSettings → Place → Ask → Reply → Type 0
 IsPackedBy settings place ask reply = (layout : Layout) → place.layout ≡ Some layout → IsPacked settings layout (place.cells (id_of ask)) ask reply
+
+-- What a replica that is open answers. One with something in doubt is down, and no other; a device fails only where nothing is in doubt.
+pub record AnswersBy (settings : LogSettings) (place : Place) (ask : Ask) (reply : Reply) : Type 0 where
+  pub says : reply ≢ Reply.Fault → MayReply place.doubt (place.cells (id_of ask)) ask reply
+  pub sure : reply ≡ Reply.Fault → place.doubt ≡ None
+  pub down : reply ≡ Reply.Down → IsSome place.doubt
+  pub there : reply ≢ Reply.NoPartition
+  pub pages : PagesCells place.cells reply
+  pub packed : IsPackedBy settings place ask reply

@@ -4,7 +4,7 @@ use Rattle.std.specs.Option.{option_map}
 use Rattle.cell_model.specs.declared.ask.Reply.{Reply}
 use Rattle.cell_model.specs.Asks.{id_of}
 use Rattle.disk_core.specs.Content.{Content}
-use Rattle.disk_core.specs.Homes.{Home, Out}
+use Rattle.disk_core.specs.Homes.{Home}
 use Rattle.log_manifest.specs.declared.manifest.LogSettings.{LogSettings}
 use Rattle.node_lab.specs.Replicas.{settings_of}
 use Rattle.node_lab.specs.Nodes.{Holds, NodesState, has_replica}
@@ -25,10 +25,11 @@ called_layouts settings cells known None reply n p = known n p
 called_layouts settings cells known (Some call) reply n p =
     cond ((n == call.node) && (p == call.partition)) (option_map (λ layout. packed_by settings layout (cells n p (id_of call.ask)) call.ask reply) (known n p)) (known n p)
 
--- The layouts behind an item of a record: a fault leaves open what that replica's is, from then on.
+-- The layouts behind an item of a record: a fault leaves open what that replica's is, from then on, and so does what a replica merges.
 abbrev pub item_layouts : LogSettings → World → Known → Item → Known
 item_layouts settings w known (Took (steps.Exec send reply)) n p = called_layouts settings w.cells known (call_at w send) reply n p
 item_layouts settings w known (Took (steps.Torn send)) n p = cond (is_call_at (call_at w send) n p) None (known n p)
+item_layouts settings w known (Took (steps.Merge node partition reply place torn)) n p = cond ((n == node) && (p == partition)) None (known n p)
 item_layouts settings w known _ n p = known n p
 
 -- the layouts behind a record that began with these cells and these layouts
@@ -58,9 +59,9 @@ AllPacked shape opening first [] = Unit {0}
 AllPacked shape opening first (item ∷ before) = AllPacked shape opening first before × IsItemPacked shape (world opening before) (places_after (settings_of shape) opening first before) item
 
 -- What disks of a type tell, and where bays keep them.
-module _ {B D : Type 0} (content : D → Content) (home : B → Home D) (out : B → Out) where
+module _ {B D : Type 0} (content : D → Content) (home : B → Home D) where
   -- A record is a run from these cells, each replica was full by its layout, and the nodes hold what it leads to: without a word on faults.
   pub record LeadsTo (shape : Shape) (folder : List ℕ) (opening : Cells) (first : Known) (record' : Record) (nodes : NodesState B D) : Type 0 where
     pub run : Run opening record'
     pub packed : AllPacked shape opening first record'
-    pub holds : Holds content home out shape folder (places_after (settings_of shape) opening first record') nodes
+    pub holds : Holds content home shape folder (places_after (settings_of shape) opening first record') nodes

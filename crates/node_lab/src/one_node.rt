@@ -1,15 +1,19 @@
-//! Going over the replicas of a node, and over the nodes.
+//! Opening the replicas of a node, and closing them.
 
-ghost use Rattle.std.specs.Prelude.{◌≡◌, ◌⊎◌, ◌<◌, ◌≤◌, ◌++◌, ◌∷◌, [], nat_eq, ◌==◌, ◌&&◌, true, ℕ, List, Some, None, IfOk, OnOk, OnErr, IsErrOf, length, string_bytes, vec_len, vec_capacity};
+ghost use Rattle.std.specs.Prelude.{◌≡◌, ◌⊎◌, ◌<◌, ◌≤◌, ◌++◌, ◌∷◌, [], nat_eq, ◌==◌, ◌&&◌, true, ℕ, List, Some, None, IfOk, OnOk, OnErr, IsErrOf, vec_len, vec_capacity};
 ghost use Rattle.std.specs.List.{IsDistinct};
-ghost use Rattle.std.specs.Option.{is_some};
 ghost use Rattle.std.specs.Map.{keys_of};
+ghost use Rattle.disk_core.specs.Homes.{OthersStay};
 ghost use Rattle.node_core.specs.Ports.{ArePorts, port_in};
+ghost use Rattle.node_lab.specs.Calls.{PortsOut};
+ghost use Rattle.node_lab.specs.Nodes.{has_replica, is_of_node, ports_of};
+ghost use Rattle.node_lab.specs.Openings.{NodeFailed, OpensPort, OpensPorts};
+ghost use Rattle.node_lab.specs.Refusals.{IsFirst};
 ghost use Rattle.node_lab.specs.Replicas.{settings_of};
-ghost use Rattle.node_lab.specs.Nodes.{IsFirst, OtherNodesStay, PortsOut, has_replica, ports_of};
-ghost use Rattle.node_lab.specs.Slots.{FailedAt, GoesHome, OpensWhere, StaysClosedWhere};
+ghost use Rattle.node_lab.specs.Slots.{FailedAt, GoesHome, IsCause, OpensAs, OtherNodesStay, StaysClosed, StaysClosedWhere, slot_in};
 ghost use Rattle.node_lab.specs.declared.fault.NodesFault.{NodesFault};
 ghost use Rattle.outside.specs.Causes.{Rose};
+ghost use Rattle.replica_core.specs.State.{ReplicaState};
 ghost use Rattle.world_model.specs.declared.order.Refusal.{Refusal};
 ghost use Rattle.world_model.specs.Shape.{IsShape};
 
@@ -22,18 +26,10 @@ use node_core::NodeCore;
 use replica_core::Replica;
 use std::alloc::Global;
 use std::mem;
-use world_model::Shape;
-
-/// A copy of a name.
-pub(crate) fn copy_of(alloc: Global, name: &str) -> Result<String, Memory>
-    ensures { IfOk result (λ copy. string_bytes copy ≡ name.now) }
-{
-    let copy = name.to_string(alloc)?;
-    Ok(copy)
-}
+use world_model::{Shape, node_of};
 
 /// Room for one more.
-fn room<T: Drop>(items: &mut Vec<T>) -> Result<(), Memory>
+pub(crate) fn room<T: Drop>(items: &mut Vec<T>) -> Result<(), Memory>
     ensures room { OnOk result (vec_len items.new < vec_capacity items.new) }
     ensures same { items.new.items ≡ items.old.items }
 {
@@ -42,7 +38,7 @@ fn room<T: Drop>(items: &mut Vec<T>) -> Result<(), Memory>
 }
 
 /// Adds one, for which there is room.
-fn add<T: Drop>(items: &mut Vec<T>, item: T)
+pub(crate) fn add<T: Drop>(items: &mut Vec<T>, item: T)
     requires { vec_len items.old < vec_capacity items.old }
     ensures { items.new.items ≡ items.old.items ++ item ∷ [] }
 {
@@ -57,8 +53,8 @@ where
     requires out { B.tells → (folder : List ℕ) × PortsOut folder node ports.items (B.out bays.old) }
     ensures slots { B.tells → (folder : List ℕ) → PortsOut folder node ports.items (B.out bays.old) → (p : ℕ)
         → GoesHome B.Disk.tells B.Disk.content B.Disk.size stops (port_in ports.items p)
-        (record { replica = port_in ports.items p; home = B.home bays.old folder node p; out = B.out bays.old node p })
-        (record { replica = None; home = B.home bays.new folder node p; out = B.out bays.new node p }) }
+        (slot_in (port_in ports.items p) (B.home bays.old) (B.out bays.old) folder node p)
+        (slot_in None (B.home bays.new) (B.out bays.new) folder node p) }
     ensures others { B.tells → (folder : List ℕ) → PortsOut folder node ports.items (B.out bays.old) → OtherNodesStay folder node (B.home bays.old) (B.out bays.old) (B.home bays.new) (B.out bays.new) }
     ensures faults { B.faults bays.new ≡ B.faults bays.old }
     ensures same { B.same bays.old bays.new }
@@ -71,16 +67,21 @@ where
     }
 }
 
-/// Stops a node.
-pub(crate) fn close_node<B: Bays>(bays: &mut B, node: u32, state: &mut NodeState<Replica<B::Disk>>, stops: bool)
+/// Closes a node: the disks of its replicas go home, as they are or as a stop of the machine leaves them.
+pub(crate) fn close_node<B: Bays>(
+    bays: &mut B,
+    node: u32,
+    state: &mut NodeState<Replica<B::Disk>>,
+    stops: bool,
+)
 where
     B::Disk: Drop,
     requires out { B.tells → (folder : List ℕ) × PortsOut folder node (ports_of (Some state.old)) (B.out bays.old) }
     ensures gone { ports_of (Some state.new) ≡ [] }
     ensures slots { B.tells → (folder : List ℕ) → PortsOut folder node (ports_of (Some state.old)) (B.out bays.old) → (p : ℕ)
         → GoesHome B.Disk.tells B.Disk.content B.Disk.size stops (port_in (ports_of (Some state.old)) p)
-        (record { replica = port_in (ports_of (Some state.old)) p; home = B.home bays.old folder node p; out = B.out bays.old node p })
-        (record { replica = None; home = B.home bays.new folder node p; out = B.out bays.new node p }) }
+        (slot_in (port_in (ports_of (Some state.old)) p) (B.home bays.old) (B.out bays.old) folder node p)
+        (slot_in None (B.home bays.new) (B.out bays.new) folder node p) }
     ensures others { B.tells → (folder : List ℕ) → PortsOut folder node (ports_of (Some state.old)) (B.out bays.old) → OtherNodesStay folder node (B.home bays.old) (B.out bays.old) (B.home bays.new) (B.out bays.new) }
     ensures faults { B.faults bays.new ≡ B.faults bays.old }
     ensures same { B.same bays.old bays.new }
@@ -91,32 +92,58 @@ where
     }
 }
 
-/// Stops all nodes.
-pub(crate) fn close_all<B: Bays>(bays: &mut B, nodes: &mut Vec<NodeState<Replica<B::Disk>>>, stops: bool)
-where
-    B::Disk: Drop,
-    requires few { length nodes.old.items ≤ 9 }
-{
-    for place in 0..nodes.len() {
-        close_node(bays, place as u32 + 1, &mut nodes[place], stops);
-    }
-}
-
-/// Whether a shape has a replica of a partition on a node.
+/// Whether a shape has a replica of one of its partitions on a node.
 fn has_replica(shape: &Shape, node: u32, partition: u32) -> bool
     requires shape { IsShape shape.now }
     requires partition { partition < shape.now.partitions }
     ensures { result ≡ has_replica shape.now node partition }
 {
     for replica in 0..shape.replicas {
-        if 1 + (partition + replica) % shape.nodes == node {
+        if node_of(shape, partition, replica) == node {
             return true;
         }
     }
     false
 }
 
-/// Opens the replicas of a node one by one.
+/// Opens the replica of a partition, if the shape has one on the node, and puts it behind the others.
+fn add_port<B: Bays>(
+    alloc: Global,
+    shape: &Shape,
+    folder: &str,
+    bays: &mut B,
+    node: u32,
+    partition: u32,
+    ports: &mut Vec<(u32, Replica<B::Disk>)>,
+) -> Result<(), NodesFault>
+where
+    B::Disk: Drop,
+    requires shape { IsShape shape.now }
+    requires partition { partition < shape.now.partitions }
+    ensures opened { OnOk result (OpensPort B.tells B.Disk.tells B.Disk.content B.Disk.size (settings_of shape.now) folder.now node (B.home bays.old) (B.out bays.old) (B.home bays.new) (B.out bays.new)
+        (has_replica shape.now node partition) partition ports.old.items ports.new.items) }
+    ensures due { OnErr result (has_replica shape.now node partition ≡ true) }
+    ensures ports { OnErr result (ports.new.items ≡ ports.old.items) }
+    ensures closed { OnErr result (B.tells → StaysClosed B.Disk.tells B.Disk.content B.Disk.size (settings_of shape.now)
+        (slot_in None (B.home bays.old) (B.out bays.old) folder.now node partition) (slot_in None (B.home bays.new) (B.out bays.new) folder.now node partition)) }
+    ensures others { B.tells → OthersStay folder.now node partition (B.home bays.old) (B.out bays.old) (B.home bays.new) (B.out bays.new) }
+    ensures refused { (refusal : Refusal) → IsErrOf result (NodesFault.Refused refusal)
+        → (refusal.node ≡ node) × (refusal.partition ≡ partition)
+        × (B.tells → IsCause B.Disk.tells B.Disk.content B.Disk.size (settings_of shape.now) (B.home bays.old folder.now node partition) refusal.what) }
+    ensures failed { IsErrOf result NodesFault.Failed → Rose (B.faults bays.old) (B.faults bays.new) ⊎ (B.tells → FailedAt B.Disk.tells B.Disk.content B.Disk.size B.Disk.faults
+        (slot_in None (B.home bays.old) (B.out bays.old) folder.now node partition) (slot_in None (B.home bays.new) (B.out bays.new) folder.now node partition)) }
+    ensures later { B.faults bays.old ≤ B.faults bays.new }
+    ensures same { B.same bays.old bays.new }
+{
+    if has_replica(shape, node, partition) {
+        room(ports)?;
+        let replica = open_replica(alloc, bays, folder, node, partition, settings_of(shape))?;
+        add(ports, (partition, replica));
+    }
+    Ok(())
+}
+
+/// Opens the replicas of a node one by one, by partition. The first one that isn't opened ends it, and those before it stay open.
 fn add_ports<B: Bays>(
     alloc: Global,
     shape: &Shape,
@@ -128,18 +155,27 @@ fn add_ports<B: Bays>(
 where
     B::Disk: Drop,
     requires shape { IsShape shape.now }
+    requires empty { ports.old.items ≡ [] }
+    ensures good { ArePorts (λ (port : ReplicaState B.Disk). Unit {0}) ports.new.items }
+    ensures opened { OnOk result (OpensPorts B.tells B.Disk.tells B.Disk.content B.Disk.size (settings_of shape.now) folder.now node (B.home bays.old) (B.out bays.old) (B.home bays.new) (B.out bays.new)
+        (has_replica shape.now node) ports.new.items) }
+    ensures slots { B.tells → (p : ℕ) → OpensAs B.Disk.tells B.Disk.content B.Disk.size (port_in ports.new.items p) (has_replica shape.now node p) (settings_of shape.now) folder.now
+        (slot_in None (B.home bays.old) (B.out bays.old) folder.now node p) (slot_in (port_in ports.new.items p) (B.home bays.new) (B.out bays.new) folder.now node p) }
+    ensures others { B.tells → OtherNodesStay folder.now node (B.home bays.old) (B.out bays.old) (B.home bays.new) (B.out bays.new) }
+    ensures place { (refusal : Refusal) → IsErrOf result (NodesFault.Refused refusal) → (refusal.node ≡ node) × (has_replica shape.now node refusal.partition ≡ true) }
+    ensures refused { (refusal : Refusal) → IsErrOf result (NodesFault.Refused refusal) → B.tells → IsFirst B.Disk.tells B.Disk.content B.Disk.size (is_of_node shape.now node) (settings_of shape.now) (B.home bays.old folder.now) refusal }
+    ensures failed { IsErrOf result NodesFault.Failed → Rose (B.faults bays.old) (B.faults bays.new)
+        ⊎ (B.tells → NodeFailed B.tells B.Disk.tells B.Disk.content B.Disk.size (settings_of shape.now) folder.now node (B.home bays.old) (B.out bays.old) (B.home bays.new) (B.out bays.new) B.Disk.faults (has_replica shape.now node)) }
+    ensures later { B.faults bays.old ≤ B.faults bays.new }
+    ensures same { B.same bays.old bays.new }
 {
     for partition in 0..shape.partitions {
-        if has_replica(shape, node, partition) {
-            room(ports)?;
-            let replica = open_replica(alloc, bays, folder, node, partition, settings_of(shape))?;
-            add(ports, (partition, replica));
-        }
+        add_port(alloc, shape, folder, bays, node, partition, ports)?;
     }
     Ok(())
 }
 
-/// Opens a node.
+/// Opens a node: all of its replicas, or none. Where one isn't opened, the first by partition decides, and all disks go home.
 pub(crate) fn open_node<B: Bays>(
     alloc: Global,
     shape: &Shape,
@@ -150,18 +186,15 @@ pub(crate) fn open_node<B: Bays>(
 where
     B::Disk: Drop,
     requires shape { IsShape shape.now }
-    ensures slots { IfOk result (λ core. B.tells → (p : ℕ) → OpensWhere B.Disk.tells B.Disk.content B.Disk.size (has_replica shape.now node p) (settings_of shape.now) folder.now
-        (record { replica = None; home = B.home bays.old folder.now node p; out = B.out bays.old node p })
-        (record { replica = port_in core.ports p; home = B.home bays.new folder.now node p; out = B.out bays.new node p })) }
-    ensures up { IfOk result (λ core. (p : ℕ) → is_some (port_in core.ports p) ≡ has_replica shape.now node p) }
+    ensures opened { IfOk result (λ core. OpensPorts B.tells B.Disk.tells B.Disk.content B.Disk.size (settings_of shape.now) folder.now node (B.home bays.old) (B.out bays.old) (B.home bays.new) (B.out bays.new)
+        (has_replica shape.now node) core.ports) }
     ensures closed { OnErr result (B.tells → (p : ℕ) → StaysClosedWhere B.Disk.tells B.Disk.content B.Disk.size (has_replica shape.now node p) (settings_of shape.now)
-        (record { replica = None; home = B.home bays.old folder.now node p; out = B.out bays.old node p })
-        (record { replica = None; home = B.home bays.new folder.now node p; out = B.out bays.new node p })) }
+        (slot_in None (B.home bays.old) (B.out bays.old) folder.now node p) (slot_in None (B.home bays.new) (B.out bays.new) folder.now node p)) }
     ensures others { B.tells → OtherNodesStay folder.now node (B.home bays.old) (B.out bays.old) (B.home bays.new) (B.out bays.new) }
-    ensures refused { (refusal : Refusal) → IsErrOf result (NodesFault.Refused refusal) → B.tells → (refusal.node ≡ node) × IsFirst B.Disk.tells B.Disk.content B.Disk.size (λ n p. (n == node) && has_replica shape.now n p) (settings_of shape.now) (B.home bays.old folder.now) refusal }
-    ensures failed { IsErrOf result NodesFault.Failed → Rose (B.faults bays.old) (B.faults bays.new) ⊎ (B.tells → (p : ℕ) × (has_replica shape.now node p ≡ true) × FailedAt B.Disk.tells B.Disk.content B.Disk.size B.Disk.faults
-        (record { replica = None; home = B.home bays.old folder.now node p; out = B.out bays.old node p })
-        (record { replica = None; home = B.home bays.new folder.now node p; out = B.out bays.new node p })) }
+    ensures place { (refusal : Refusal) → IsErrOf result (NodesFault.Refused refusal) → (refusal.node ≡ node) × (has_replica shape.now node refusal.partition ≡ true) }
+    ensures refused { (refusal : Refusal) → IsErrOf result (NodesFault.Refused refusal) → B.tells → IsFirst B.Disk.tells B.Disk.content B.Disk.size (is_of_node shape.now node) (settings_of shape.now) (B.home bays.old folder.now) refusal }
+    ensures failed { IsErrOf result NodesFault.Failed → Rose (B.faults bays.old) (B.faults bays.new)
+        ⊎ (B.tells → NodeFailed B.tells B.Disk.tells B.Disk.content B.Disk.size (settings_of shape.now) folder.now node (B.home bays.old) (B.out bays.old) (B.home bays.new) (B.out bays.new) B.Disk.faults (has_replica shape.now node)) }
     ensures later { B.faults bays.old ≤ B.faults bays.new }
     ensures same { B.same bays.old bays.new }
 {
@@ -179,45 +212,4 @@ where
             Err(fault)
         }
     }
-}
-
-/// Opens all nodes.
-pub(crate) fn open_all<B: Bays>(
-    alloc: Global,
-    shape: &Shape,
-    folder: &str,
-    bays: &mut B,
-) -> Result<Vec<NodeState<Replica<B::Disk>>>, NodesFault>
-where
-    B::Disk: Drop,
-    requires shape { IsShape shape.now }
-{
-    let mut nodes = Vec::new(alloc);
-    match add_nodes(alloc, shape, folder, bays, &mut nodes) {
-        Ok(()) => Ok(nodes),
-        Err(fault) => {
-            close_all(bays, &mut nodes, false);
-            Err(fault)
-        }
-    }
-}
-
-/// Opens the nodes one by one.
-fn add_nodes<B: Bays>(
-    alloc: Global,
-    shape: &Shape,
-    folder: &str,
-    bays: &mut B,
-    nodes: &mut Vec<NodeState<Replica<B::Disk>>>,
-) -> Result<(), NodesFault>
-where
-    B::Disk: Drop,
-    requires shape { IsShape shape.now }
-{
-    for node in 0..shape.nodes {
-        room(nodes)?;
-        let core = open_node(alloc, shape, folder, bays, node + 1)?;
-        add(nodes, NodeState::Up(core));
-    }
-    Ok(())
 }

@@ -4,8 +4,8 @@ ghost use Rattle.std.specs.Prelude.{◌≡◌, ◌⊎◌, ◌≤◌, ℕ, List, 
 ghost use Rattle.blob_id.specs.declared.id.BlobId.{BlobId};
 ghost use Rattle.cell_model.specs.declared.cell.Cell.{Cell};
 ghost use Rattle.disk_core.specs.Homes.{OthersStay};
-ghost use Rattle.node_lab.specs.Replicas.{AllRepresentEither, HoldsOpen, IsOpened, Left, LogHasLayout, settings_of};
-ghost use Rattle.node_lab.specs.Slots.{FailedAt, GoesHome, IsCause, OpensSlot, StaysClosed};
+ghost use Rattle.node_lab.specs.Replicas.{AllRepresentEither, HoldsOpen, Left, LogHasLayout, settings_of};
+ghost use Rattle.node_lab.specs.Slots.{FailedAt, GoesHome, IsCause, OpensSlot, StaysClosed, slot_in};
 ghost use Rattle.log_manifest.specs.declared.manifest.LogSettings.{LogSettings};
 ghost use Rattle.outside.specs.Causes.{Rose};
 ghost use Rattle.part_log.specs.Images.{IsLaidOut};
@@ -54,22 +54,20 @@ pub(crate) fn open_replica<B: Bays>(
 ) -> Result<Replica<B::Disk>, NodesFault>
     requires ranges { AreInRange settings }
 
-    ensures opened { IfOk result (λ replica. IsOpened B.Disk.content B.Disk.tells settings (B.home bays.old folder.now node partition) replica) }
-    ensures out { IfOk result (λ replica. B.tells → OpensSlot B.Disk.tells B.Disk.content B.Disk.size settings folder.now
-        (record { replica = None; home = B.home bays.old folder.now node partition; out = B.out bays.old node partition })
-        (record { replica = Some replica; home = B.home bays.new folder.now node partition; out = B.out bays.new node partition })) }
+    ensures opened { IfOk result (λ replica. B.tells → OpensSlot B.Disk.tells B.Disk.content B.Disk.size settings folder.now
+        (slot_in None (B.home bays.old) (B.out bays.old) folder.now node partition)
+        (slot_in (Some replica) (B.home bays.new) (B.out bays.new) folder.now node partition)) }
     ensures closed { OnErr result (B.tells → StaysClosed B.Disk.tells B.Disk.content B.Disk.size settings
-        (record { replica = None; home = B.home bays.old folder.now node partition; out = B.out bays.old node partition })
-        (record { replica = None; home = B.home bays.new folder.now node partition; out = B.out bays.new node partition })) }
+        (slot_in None (B.home bays.old) (B.out bays.old) folder.now node partition)
+        (slot_in None (B.home bays.new) (B.out bays.new) folder.now node partition)) }
     ensures others { B.tells → OthersStay folder.now node partition (B.home bays.old) (B.out bays.old) (B.home bays.new) (B.out bays.new) }
 
     ensures refused { (refusal : Refusal) → IsErrOf result (NodesFault.Refused refusal)
         → (refusal.node ≡ node) × (refusal.partition ≡ partition)
         × (B.tells → IsCause B.Disk.tells B.Disk.content B.Disk.size settings (B.home bays.old folder.now node partition) refusal.what) }
     ensures failed { IsErrOf result NodesFault.Failed → Rose (B.faults bays.old) (B.faults bays.new) ⊎ (B.tells → FailedAt B.Disk.tells B.Disk.content B.Disk.size B.Disk.faults
-        (record { replica = None; home = B.home bays.old folder.now node partition; out = B.out bays.old node partition })
-        (record { replica = None; home = B.home bays.new folder.now node partition; out = B.out bays.new node partition })) }
-    ensures size { IfOk result (λ replica. B.Disk.size replica.log.disk ≡ disk_size settings) }
+        (slot_in None (B.home bays.old) (B.out bays.old) folder.now node partition)
+        (slot_in None (B.home bays.new) (B.out bays.new) folder.now node partition)) }
     ensures later { B.faults bays.old ≤ B.faults bays.new }
     ensures same { B.same bays.old bays.new }
 {
@@ -113,8 +111,8 @@ pub(crate) fn send_home<B: Bays>(
     requires out { B.tells → IsSome (B.out bays.old node partition) }
     ensures home { B.tells → (folder : List ℕ) → B.out bays.old node partition ≡ Some folder
         → GoesHome B.Disk.tells B.Disk.content B.Disk.size stops (Some replica)
-        (record { replica = Some replica; home = B.home bays.old folder node partition; out = B.out bays.old node partition })
-        (record { replica = None; home = B.home bays.new folder node partition; out = B.out bays.new node partition }) }
+        (slot_in (Some replica) (B.home bays.old) (B.out bays.old) folder node partition)
+        (slot_in None (B.home bays.new) (B.out bays.new) folder node partition) }
     ensures others { B.tells → (folder : List ℕ) → B.out bays.old node partition ≡ Some folder
         → OthersStay folder node partition (B.home bays.old) (B.out bays.old) (B.home bays.new) (B.out bays.new) }
     ensures faults { B.faults bays.new ≡ B.faults bays.old }

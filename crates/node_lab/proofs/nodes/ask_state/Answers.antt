@@ -5,7 +5,8 @@ use Rattle.replica_core.specs.State.{IsAsked, ReplicaState, faults_of, fixed_of,
 use Rattle.node_core.specs.Nodes.{NodeAsked}
 use Rattle.node_core.specs.Ports as ports
 use Rattle.node_lab.specs.declared.state.NodeState.{NodeState}
-use Rattle.node_lab.specs.Nodes.{AsksPorts, ports_of}
+use Rattle.node_lab.specs.Nodes.{ports_of}
+use Rattle.node_lab.specs.Calls.{AsksPorts}
 use Rattle.node_lab.proofs.NodeAskLemmas.{node_asked}
 use Rattle.node_lab.proofs.nodes.ask_state.Goals as goal
 

@@ -3,7 +3,7 @@ use Rattle.std.specs.List.{IsDistinct}
 use Rattle.std.specs.Map.{keys_of}
 use Rattle.std.specs.Prelude.{IsSome}
 use Rattle.replica_core.specs.State.{ReplicaState}
-use Rattle.node_lab.specs.Nodes.{PortsOut}
+use Rattle.node_lab.specs.Calls.{PortsOut}
 use Rattle.node_lab.proofs.WalkHomeLemmas.{SendsRest, distinct_front, last_out, none_left, none_sent, sends_last}
 use Rattle.node_lab.proofs.one_node.send_all_home.Goals as goal
 use Rattle.node_lab.proofs.one_node.send_all_home.Goals.{in-Some, in_default}

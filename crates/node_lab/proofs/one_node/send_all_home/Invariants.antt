@@ -1,7 +1,7 @@
 use Rattle.std.proofs.Common.{◌≡◌, ◌+◌, ℕ, nat_eq, List, length}
 use Rattle.std.specs.List.{IsDistinct}
 use Rattle.std.specs.Map.{keys_of}
-use Rattle.node_lab.specs.Nodes.{PortsOut}
+use Rattle.node_lab.specs.Calls.{PortsOut}
 use Rattle.node_lab.proofs.WalkHomeLemmas.{SendsRest}
 use Rattle.node_lab.proofs.one_node.send_all_home.Given as goal
 

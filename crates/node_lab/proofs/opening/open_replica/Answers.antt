@@ -5,7 +5,7 @@ use Rattle.cell_model.specs.Cells.{cell_in}
 use Rattle.disk_core.specs.Homes.{TakesOut}
 use Rattle.replica_core.specs.Maps.{StandsForCells}
 use Rattle.node_lab.specs.declared.fault.NodesFault.{NodesFault}
-use Rattle.node_lab.specs.Replicas.{found}
+use Rattle.node_lab.specs.Replicas.{IsOpened, found}
 use Rattle.node_lab.proofs.OpenLemmas.{cause_of, failed_by, goes_back, opens, others_on, refused_stays, taken_found}
 use Rattle.node_lab.proofs.opening.open_replica.Goals as goal
 use Rattle.node_lab.proofs.opening.open_replica.Goals.{In-Ok}
@@ -14,23 +14,23 @@ takes : (g : _) (c : In-Ok g) → g.B.Bays.tells → TakesOut g.B.Disk.Disk.tell
 takes g c t = subst (λ (n : ℕ). TakesOut g.B.Disk.Disk.tells g.B.Disk.Disk.content g.B.Disk.Disk.size c.args.folder.now c.args.node c.args.partition n c.in-Ok.disk (g.B.Bays.home c.args.bays.now) (g.B.Bays.out c.args.bays.now) (g.B.Bays.home c.open.new.self) (g.B.Bays.out c.open.new.self))
     c.disk_size-size.ensures (c.in-Ok.ensures.taken t)
 
+sized : (g : _) (c : In-Ok g) → g.B.Disk.Disk.size c.in-Ok.disk ≡ disk_size c.args.settings
+sized g c = c.in-Ok.ensures.size ∙ c.disk_size-size.ensures
+
 seen : (g : _) (c : In-Ok g) → g.B.Disk.Disk.tells → (g.B.Disk.Disk.content c.in-Ok.disk).seen ≡ found g.B.Disk.Disk.content c.args.settings (g.B.Bays.home c.args.bays.now c.args.folder.now c.args.node c.args.partition)
 seen g c t = taken_found g.B.Disk.Disk.tells g.B.Disk.Disk.content g.B.Disk.Disk.size c.args.settings c.args.folder.now c.args.node c.args.partition c.in-Ok.disk _ _ _ _ (takes g c (g.met.B.Bays.known t)) t
 
 pub returns-in-Ok-open-clause-opened : goal.returns-in-Ok-open-clause-opened
-returns-in-Ok-open-clause-opened g c =
+returns-in-Ok-open-clause-opened g c = λ t.
     let it = (goal.at.returns-in-Ok-open-clause-opened g c).In-Ok in
-    record {
+    let opened : IsOpened g.B.Disk.Disk.content g.B.Disk.Disk.tells c.args.settings (g.B.Bays.home c.args.bays.now c.args.folder.now c.args.node c.args.partition) c.in-Ok-open.replica = record {
       up = c.in-Ok-open.ensures.up;
       named = c.in-Ok-open.ensures.settings;
       stood = λ t. subst (λ (l : List ℕ). StandsForCells c.args.settings l (cell_in c.in-Ok-open.replica.cells) c.in-Ok-open.replica.log.table.end) (seen g it t) (c.in-Ok-open.ensures.cells t);
       laid_out = λ t. subst (λ (l : List ℕ). IsLaidOut c.args.settings l (layout_of c.in-Ok-open.replica.log.table)) (seen g it t) (c.in-Ok-open.ensures.laid_out t);
-    }
-
-pub returns-in-Ok-open-clause-out : goal.returns-in-Ok-open-clause-out
-returns-in-Ok-open-clause-out g c = λ t.
-    let it = (goal.at.returns-in-Ok-open-clause-out g c).In-Ok in
-    opens g.B.Disk.Disk.tells g.B.Disk.Disk.content g.B.Disk.Disk.size c.args.settings c.args.folder.now c.args.node c.args.partition c.in-Ok.disk _ _ _ _ (takes g it t) c.in-Ok-open.replica (returns-in-Ok-open-clause-opened g c)
+    } in
+    opens g.B.Disk.Disk.tells g.B.Disk.Disk.content g.B.Disk.Disk.size c.args.settings c.args.folder.now c.args.node c.args.partition c.in-Ok.disk _ _ _ _ (takes g it t) (sized g it)
+    c.in-Ok-open.replica (c.in-Ok-open.ensures.disk_size ∙ sized g it) opened
 
 pub returns-in-Err-clause-closed : goal.returns-in-Err-clause-closed
 returns-in-Err-clause-closed g c = λ t.
@@ -40,7 +40,7 @@ pub returns-in-Err-open-clause-closed : goal.returns-in-Err-open-clause-closed
 returns-in-Err-open-clause-closed g c = λ t.
     let it = (goal.at.returns-in-Err-open-clause-closed g c).In-Ok in
     let taken = takes g it t in
-    goes_back g.B.Disk.Disk.tells g.B.Disk.Disk.content g.B.Disk.Disk.size c.args.settings c.args.folder.now c.args.node c.args.partition c.in-Ok.disk _ _ _ _ taken c.in-Err-open.disk _ _
+    goes_back g.B.Disk.Disk.tells g.B.Disk.Disk.content g.B.Disk.Disk.size c.args.settings c.args.folder.now c.args.node c.args.partition c.in-Ok.disk _ _ _ _ taken c.in-Err-open.disk (c.in-Err-open.ensures.disk_size_err ∙ sized g it) _ _
     (c.give_back.ensures.home t c.args.folder.now taken.is_out) c.in-Err-open.ensures.during_err c.in-Err-open.ensures.opens_err
 
 pub returns-in-Err-open-clause-others : goal.returns-in-Err-open-clause-others

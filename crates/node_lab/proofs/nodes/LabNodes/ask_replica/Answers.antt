@@ -5,7 +5,8 @@ use Rattle.std.proofs.lemmas.Option.{slice_get-get_or}
 use Rattle.replica_core.specs.State.{ReplicaState}
 use Rattle.world_model.specs.declared.shape.Shape.{Shape}
 use Rattle.node_lab.specs.declared.state.NodeState.{NodeState}
-use Rattle.node_lab.specs.Nodes.{AsksNodes, AsksPorts, IsNodes, IsOpen, NodesState, ports_at, ports_of}
+use Rattle.node_lab.specs.Nodes.{IsNodes, IsOpen, NodesState, ports_at, ports_of}
+use Rattle.node_lab.specs.Calls.{AsksNodes, AsksPorts}
 use Rattle.node_lab.proofs.NodeAskLemmas.{nodes_asked, nodes_unasked, open_asked}
 use Rattle.node_lab.proofs.nodes.LabNodes.ask_replica.Goals as goal
 use Rattle.node_lab.proofs.nodes.LabNodes.ask_replica.Goals.{In-Some}

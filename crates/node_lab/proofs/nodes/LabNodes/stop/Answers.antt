@@ -6,11 +6,13 @@ use Rattle.replica_core.specs.State.{ReplicaState}
 use Rattle.node_core.specs.Ports.{port_in}
 use Rattle.world_model.specs.declared.shape.Shape.{Shape}
 use Rattle.node_lab.specs.declared.state.NodeState.{NodeState}
-use Rattle.node_lab.specs.Nodes.{ClosesNodes, IsNodes, IsOpen, NodesState, OtherNodesStay, PortsOut, ports_at, ports_of}
+use Rattle.node_lab.specs.Nodes.{IsNodes, IsOpen, NodesState, ports_at, ports_of}
+use Rattle.node_lab.specs.Calls.{ClosesNodes, PortsOut}
+use Rattle.node_lab.specs.Slots.{OtherNodesStay}
 use Rattle.node_lab.specs.Slots.{GoesHome}
 use Rattle.node_lab.proofs.StopLemmas.{nodes_closed, open_closed}
-use Rattle.node_lab.proofs.nodes.LabNodes.stop_node.Goals as goal
-use Rattle.node_lab.proofs.nodes.LabNodes.stop_node.Goals.{In-Some}
+use Rattle.node_lab.proofs.nodes.LabNodes.stop.Goals as goal
+use Rattle.node_lab.proofs.nodes.LabNodes.stop.Goals.{In-Some}
 
 within : (g : _) (c : In-Some g) → (c.args.node ≡ c.in-Some.place + 1) × (c.in-Some.place < length c.self.inside.nodes.items)
 within g c = subst (λ (s : NodesState g.row.B.Denot g.row.B-Disk.Denot). (c.args.node ≡ c.in-Some.place + 1) × (c.in-Some.place < length s.nodes)) (sym c.self.view_is) c.in-Some.ensures.some
