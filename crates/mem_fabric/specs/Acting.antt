@@ -1,5 +1,5 @@
 -- What orders are told where disks aren't opened.
-use Rattle.lab_nodes.specs.declared.fault.NodesFault.{NodesFault}
+use Rattle.node_lab.specs.declared.fault.NodesFault.{NodesFault}
 use Rattle.world_model.specs.declared.order.PullCause.{PullCause}
 use Rattle.world_model.specs.declared.order.Told.{Told}
 

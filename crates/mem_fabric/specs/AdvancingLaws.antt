@@ -3,12 +3,11 @@ use Rattle.std.specs.Prelude.{◌≡◌, ℕ, Bool, true, false, ◌&&◌, List,
 use Rattle.std.proofs.Common.{◌∙◌}
 use Rattle.disk_core.specs.Content.{Content}
 use Rattle.disk_core.specs.Homes.{Home, Out}
-use Rattle.lab_nodes.specs.Nodes.{NodesState}
 use Rattle.mem_fabric.specs.Advancing.{PlaysOver}
-use Rattle.mem_fabric.specs.GoingLaws.{bays_stay, bays_on, packing_stays, packing_on}
-use Rattle.mem_fabric.specs.Past.{calls_of}
+use Rattle.mem_fabric.specs.GoingLaws.{bays_stay, bays_on}
 use Rattle.mem_fabric.specs.PlayedLaws.{plays_nothing, plays_on, plays_anyhow}
 use Rattle.mem_fabric.specs.Sound.{State, network_of}
+use Rattle.node_lab.specs.Nodes.{NodesState}
 use Rattle.world_model.specs.declared.moves.Move.{Move}
 
 module _ {B D M : Type 0} (bays_tell disks_tell : Type 0) (content : D → Content) (home : B → Home D) (out : B → Out) (same_bays : B → B → Type 0) (given : M → List Move) (seeds : M → List ℕ) (same_moves : M → M → Type 0) where
@@ -21,7 +20,7 @@ module _ {B D M : Type 0} (bays_tell disks_tell : Type 0) (content : D → Conte
     same = same;
     begun = refl;
     bays = bays_stay bays_tell out same_bays nodes kept;
-    packing = packing_stays disks_tell content home (calls_of s.past) nodes;
+    runs = λ standing. (standing, λ shape folder opening first runs. runs);
   }
 
   pub over_on : (m1 : M) (s1 : State) (n1 : NodesState B D) (m2 : M) (s2 : State) (n2 : NodesState B D) (m3 : M) (s3 : State) (n3 : NodesState B D) (x y : Bool)
@@ -32,9 +31,12 @@ module _ {B D M : Type 0} (bays_tell disks_tell : Type 0) (content : D → Conte
     same = moves_join p.same q.same;
     begun = q.begun ∙ p.begun;
     bays = bays_on bays_tell out same_bays n1 n2 n3 bays_join p.bays q.bays;
-    packing = packing_on disks_tell content home (calls_of s1.past) n1 (calls_of s2.past) n2 (calls_of s3.past) n3 p.packing q.packing;
+    runs = λ standing.
+        let earlier = p.runs standing in
+        let later = q.runs earlier.0 in
+        (later.0, λ shape folder opening first runs. later.1 shape folder opening first (earlier.1 shape folder opening first runs));
   }
 
   pub over_anyhow : (m1 : M) (s1 : State) (n1 : NodesState B D) (m2 : M) (s2 : State) (n2 : NodesState B D) (x : Bool) → Over m1 s1 n1 m2 s2 n2 x → Over m1 s1 n1 m2 s2 n2 false
   over_anyhow m1 s1 n1 m2 s2 n2 x p =
-      record { played = plays_anyhow (given m1) (network_of s1) (given m2) (network_of s2) x p.played; same = p.same; begun = p.begun; bays = p.bays; packing = p.packing }
+      record { played = plays_anyhow (given m1) (network_of s1) (given m2) (network_of s2) x p.played; same = p.same; begun = p.begun; bays = p.bays; runs = p.runs }

@@ -1,16 +1,14 @@
 -- What the nodes have to do with what was told, and what calls make of both.
-use Rattle.std.specs.Prelude.{◌≡◌, ◌==◌, ℕ, true, ◌&&◌, not, List, [], ◌∷◌, ◌++◌, filter}
+use Rattle.std.specs.Prelude.{◌≡◌, ◌==◌, ℕ, ◌&&◌, not, List, [], ◌∷◌, ◌++◌, filter}
 use Rattle.disk_core.specs.Content.{Content}
 use Rattle.disk_core.specs.Homes.{Home, Out}
-use Rattle.lab_nodes.specs.Nodes.{NodesState, OnlyOwnOut, is_up, stands}
-use Rattle.lab_nodes.specs.Spots.{DiskFailed}
-use Rattle.mem_fabric.specs.Packing.{KeepsPacking}
 use Rattle.mem_fabric.specs.Past.{calls_of}
-use Rattle.mem_fabric.specs.Runs.{RunsFrom}
+use Rattle.mem_fabric.specs.Runs.{KeepsRuns}
 use Rattle.mem_fabric.specs.Sound.{State, is_among}
-use Rattle.mem_fabric.specs.Torn.{has_torn}
+use Rattle.node_lab.specs.Calls.{OnlyOwnOut}
+use Rattle.node_lab.specs.Nodes.{NodesState, is_up}
+use Rattle.mem_fabric.specs.Network.{stands}
 use Rattle.world_model.specs.declared.shape.Shape.{Shape}
-use Rattle.world_model.specs.Fabric.{KeepsRun}
 
 -- The nodes are open for the shape, and all those are up that aren't stopped.
 pub record AreNodesOf {B D : Type 0} (s : State) (nodes : NodesState B D) : Type 0 where
@@ -33,17 +31,10 @@ pub record KeepsBays {B D : Type 0} (bays_tell : Type 0) (out : B → Out) (same
   pub same_bays : same nodes.bays nodes'.bays
   pub own : bays_tell → (before : Out) → OnlyOwnOut out before nodes → OnlyOwnOut out before nodes'
 
--- where something is in doubt, some disk has failed in some call, if disks tell
-abbrev pub HasTornBy : {D : Type 0} → (tells : Type 0) → (faults : D → ℕ) → State → Type 0
-HasTornBy tells faults s = has_torn (calls_of s.past) ≡ true → tells → ∥ DiskFailed faults ∥₁
-
--- Whether bays and disks tell, what they tell, and how often they have failed.
-module _ {B D : Type 0} (bays_tell disks_tell : Type 0) (content : D → Content) (faults : D → ℕ) (home : B → Home D) (out : B → Out) (same : B → B → Type 0) where
-  -- The nodes still are those of what was told. What was a run to what they held is one to what they hold, what was packed is packed, and
-  -- something is in doubt only where a disk failed.
+-- Whether bays and disks tell, and what they tell.
+module _ {B D : Type 0} (bays_tell disks_tell : Type 0) (content : D → Content) (home : B → Home D) (out : B → Out) (same : B → B → Type 0) where
+  -- The nodes still are those of what was told, and what was a run to what they held is one to what they hold.
   pub record GoesOn (s : State) (nodes : NodesState B D) (s' : State) (nodes' : NodesState B D) : Type 0 where
     pub of : AreNodesOf s' nodes'
-    pub run : (shape : Shape) (folder : List ℕ) → KeepsRun (RunsFrom disks_tell content home (calls_of s.past) nodes shape folder) (RunsFrom disks_tell content home (calls_of s'.past) nodes' shape folder)
-    pub packing : KeepsPacking disks_tell content home (calls_of s.past) nodes (calls_of s'.past) nodes'
+    pub runs : (shape : Shape) (folder : List ℕ) → KeepsRuns disks_tell content home (calls_of s.past) nodes (calls_of s'.past) nodes' shape folder
     pub bays : KeepsBays bays_tell out same nodes nodes'
-    pub torn : HasTornBy disks_tell faults s → HasTornBy disks_tell faults s'

@@ -1,13 +1,13 @@
 pub mod Network
 pub mod Played
 pub mod Past
-pub mod Asking
-pub mod Torn
-pub mod Runs
-pub mod Packing
+pub mod Doubts
 pub mod Sound
+pub mod Runs
 pub mod Going
 pub mod Acting
+pub mod Causes
+pub mod Restarts
 pub mod GoingLaws
 pub mod PlayedLaws
 pub mod Advancing

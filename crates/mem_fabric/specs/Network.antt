@@ -4,7 +4,8 @@ use Rattle.blob_id.specs.declared.memory.Memory.{Memory}
 use Rattle.cell_model.specs.declared.ask.Reply.{Reply}
 use Rattle.cell_model.specs.declared.ask.Reply.TheVariants as replied
 use Rattle.cell_model.specs.Asks.{CanAnswer}
-use Rattle.lab_nodes.specs.Nodes.{stands}
+use Rattle.node_lab.specs.Nodes.{has_replica}
+use Rattle.node_lab.specs.Places.{is_fault}
 use Rattle.req_frame.specs.declared.frame.Body.{Body}
 use Rattle.req_frame.specs.declared.frame.Frame.{Frame}
 use Rattle.req_frame.specs.Spelling.{frame_text}
@@ -45,6 +46,12 @@ world_of n = world nothing_held (told n.calls)
 abbrev pub is_stopped : Network → ℕ → Bool
 is_stopped n node = (world_of n).stopped node
 
+-- What chance decides in a move: what a replica replies, whether disks are opened, and in which partitions of a node what was in doubt has landed.
+pub record Chance : Type 0 where
+  pub reply : Reply
+  pub opened : Bool
+  pub done : List ℕ
+
 -- what a move does, and what is in flight afterwards
 pub record Moved : Type 0 where
   pub steps : List Step
@@ -78,11 +85,6 @@ ticked n ms =
 -- nothing comes of it but what is in flight then
 abbrev pub quiet : List ℕ → List ℕ → Moved
 quiet requests replies = record { steps = []; event = events.Quiet; requests = requests; replies = replies }
-
--- whether a reply says that the replica's device failed
-abbrev pub is_fault : Reply → Bool
-is_fault replied.Fault = true
-is_fault _ = false
 
 -- what is told of a request that was run, by its reply: where the device failed, the request may have taken effect or not
 abbrev pub run_step : ℕ → Reply → Step
@@ -183,32 +185,35 @@ halted n node = record {
 abbrev pub stops : Network → ℕ → Moved
 stops n node = cond (is_node n.shape node && not (is_stopped n node)) (halted n node) (ticked n 0)
 
--- a stopped node runs again: its replicas hold what they held, and nothing is in doubt
-abbrev pub resumed : Network → ℕ → Moved
-resumed n node = record { steps = steps.Restart node [] ∷ []; event = events.Quiet; requests = n.requests; replies = n.replies }
+-- a stopped node runs again, and in these partitions what was in doubt has landed
+abbrev pub resumed : Network → ℕ → (done : List ℕ) → Moved
+resumed n node done = record { steps = steps.Restart node done ∷ []; event = events.Quiet; requests = n.requests; replies = n.replies }
 
 -- what comes of it by whether its disks were opened: where they weren't, it stays stopped
-abbrev pub restarts : Network → ℕ → (opened : Bool) → Moved
-restarts n node opened = cond (is_node n.shape node && is_stopped n node) (cond opened (resumed n node) (quiet n.requests n.replies)) (ticked n 0)
+abbrev pub restarts : Network → ℕ → (opened : Bool) → (done : List ℕ) → Moved
+restarts n node opened done = cond (is_node n.shape node && is_stopped n node) (cond opened (resumed n node done) (quiet n.requests n.replies)) (ticked n 0)
 
--- What a move does; this is the reply, where it runs a request that asks something, and whether the disks were opened, where it restarts a node.
--- Other moves are those on nothing.
-abbrev pub moved : Network → Reply → (opened : Bool) → Move → Moved
-moved n reply opened (moves.Run k) = ran n reply (place_among k (length n.requests)) false
-moved n reply opened (moves.RunAgain k) = ran n reply (place_among k (length n.requests)) true
-moved n reply opened (moves.Drop k) = dropped n (place_among k (length n.requests))
-moved n reply opened (moves.Hand k) = handed n (place_among k (length n.replies)) false
-moved n reply opened (moves.HandAgain k) = handed n (place_among k (length n.replies)) true
-moved n reply opened (moves.DropReply k) = dropped_reply n (place_among k (length n.replies))
-moved n reply opened (moves.Tick ms) = ticked n ms
-moved n reply opened (moves.Cut node) = cut n node
-moved n reply opened (moves.Stop node) = stops n node
-moved n reply opened (moves.Restart node) = restarts n node opened
-moved n reply opened _ = ticked n 0
+-- What a move does, as chance decides. Other moves are those on nothing.
+abbrev pub moved : Network → Chance → Move → Moved
+moved n chance (moves.Run k) = ran n chance.reply (place_among k (length n.requests)) false
+moved n chance (moves.RunAgain k) = ran n chance.reply (place_among k (length n.requests)) true
+moved n chance (moves.Drop k) = dropped n (place_among k (length n.requests))
+moved n chance (moves.Hand k) = handed n (place_among k (length n.replies)) false
+moved n chance (moves.HandAgain k) = handed n (place_among k (length n.replies)) true
+moved n chance (moves.DropReply k) = dropped_reply n (place_among k (length n.replies))
+moved n chance (moves.Tick ms) = ticked n ms
+moved n chance (moves.Cut node) = cut n node
+moved n chance (moves.Stop node) = stops n node
+moved n chance (moves.Restart node) = restarts n node chance.opened chance.done
+moved n chance _ = ticked n 0
 
--- the network after a move, told as one call
+-- the network after what a move does, told as this call
+abbrev pub told_as : Network → Did → Moved → Network
+told_as n did m = record n { calls = record { did = did; steps = m.steps } ∷ n.calls; requests = m.requests; replies = m.replies }
+
+-- the network after a move
 abbrev pub after_move : Network → Moved → Network
-after_move n m = record n { calls = record { did = Did.Delivered m.event; steps = m.steps } ∷ n.calls; requests = m.requests; replies = m.replies }
+after_move n m = told_as n (Did.Delivered m.event) m
 
 -- what the request at a place asks
 abbrev pub runs_at : Network → Option ℕ → Option Call
@@ -221,6 +226,11 @@ runs n (moves.Run k) = runs_at n (place_among k (length n.requests))
 runs n (moves.RunAgain k) = runs_at n (place_among k (length n.requests))
 runs n _ = None
 
+-- whether the network has a replica of a partition on a node
+abbrev pub stands : Option Shape → ℕ → ℕ → Bool
+stands None node partition = false
+stands (Some shape) node partition = has_replica shape node partition
+
 -- A node without such a replica says so. Any other replies what the ask can be answered.
 pub record MayAnswer (n : Network) (call : Call) (reply : Reply) : Type 0 where
   pub none : stands n.shape call.node call.partition ≡ false → reply ≡ replied.NoPartition
@@ -232,11 +242,10 @@ MayGive n (Some call) reply = MayAnswer n call reply
 
 -- the move was made, and its event given
 pub record Makes (old : Network) (chosen : Move) (event : Event) (new : Network) : Type 0 where
-  pub reply : Reply
-  pub opened : Bool
-  pub may : MayGive old (runs old chosen) reply
-  pub gave : (moved old reply opened chosen).event ≡ event
-  pub network : new ≡ after_move old (moved old reply opened chosen)
+  pub chance : Chance
+  pub may : MayGive old (runs old chosen) chance.reply
+  pub gave : (moved old chance chosen).event ≡ event
+  pub network : new ≡ after_move old (moved old chance chosen)
 
 -- the move was made, or for want of memory nothing was done
 abbrev pub Does : Network → Move → Network → Result Event Memory → Type 0
@@ -262,14 +271,9 @@ after_sent n node frame = record n {
 abbrev pub after_send : Network → ℕ → List ℕ → Network
 after_send n node frame = cond (is_stopped n node) (after_steps n (Did.Requested node frame) (steps.Refused node frame ∷ [])) (after_sent n node frame)
 
--- the network after a node was stopped by an order: that its connection broke waits to be given
+-- the network after a node was stopped by an order, as a move stops it, but that its connection broke waits to be given
 abbrev pub after_stop : Network → ℕ → Network
-after_stop n node = record n {
-  calls = record { did = Did.Administered (Order.Stop node) Told.Done; steps = steps.Stop node ∷ [] } ∷ n.calls;
-  requests = requests_elsewhere n node;
-  replies = replies_elsewhere n node;
-  queue = n.queue ++ events.Broken node ∷ [];
-}
+after_stop n node = record (told_as n (Did.Administered (Order.Stop node) Told.Done) (halted n node)) { queue = n.queue ++ (halted n node).event ∷ [] }
 
 -- What a node that is to run again is told: it runs, its disks aren't opened, or they can't be read, or there is no memory to open them in.
 abbrev pub MayRestart : (stopped : Bool) → ℕ → Told → Type 0
@@ -286,16 +290,17 @@ MayBeTold n (Order.Stop node) answer = answer ≡ cond (is_stopped n node) Told.
 MayBeTold n (Order.Restart node) answer = MayRestart (is_stopped n node) node answer
 MayBeTold n order answer = ⊥
 
--- the network after an order that was answered so
-abbrev pub after_order : Network → Order → Told → Network
-after_order n (Order.Stop node) Told.Done = after_stop n node
-after_order n (Order.Restart node) Told.Done = after_steps n (Did.Administered (Order.Restart node) Told.Done) (steps.Restart node [] ∷ [])
-after_order n order answer = after_steps n (Did.Administered order answer) []
+-- the network after an order that was answered so; a node that runs again does so as by a move
+abbrev pub after_order : Network → Order → Told → (done : List ℕ) → Network
+after_order n (Order.Stop node) Told.Done done = after_stop n node
+after_order n (Order.Restart node) Told.Done done = told_as n (Did.Administered (Order.Restart node) Told.Done) (resumed n node done)
+after_order n order answer done = after_steps n (Did.Administered order answer) []
 
 -- an order was carried out, or came to nothing
 pub record Obeys (old : Network) (order : Order) (answer : Told) (new : Network) : Type 0 where
   pub may : MayBeTold old order answer
-  pub network : new ≡ after_order old order answer
+  pub done : List ℕ
+  pub network : new ≡ after_order old order answer done
 
 -- the event is the oldest that waits
 abbrev pub IsOldest : List Event → Event → Type 0

@@ -1,6 +1,5 @@
 -- What is done to the network of the nodes, act by act, and which moves that takes.
 use Rattle.std.specs.Prelude.{◌≡◌, ℕ, Bool, true, List, [], ◌∷◌, ◌++◌, Option, Some, None, IsSome}
-use Rattle.cell_model.specs.declared.ask.Reply.{Reply}
 use Rattle.world_model.specs.declared.moves.Move.{Move}
 use Rattle.world_model.specs.declared.order.Order.{Order}
 use Rattle.world_model.specs.declared.order.Told.{Told}
@@ -9,33 +8,32 @@ use Rattle.world_model.specs.declared.step.Called.{Called}
 use Rattle.world_model.specs.declared.step.Event.{Event}
 use Rattle.world_model.specs.Fabric.{HasNode, TakesOrder}
 use Rattle.world_model.specs.Told.{OrderAnswer, orders_told}
-use Rattle.mem_fabric.specs.Network.{Network, nothing, moved, runs, MayGive, after_open, after_send, after_move, MayBeTold, after_order, IsOldest, after_given}
+use Rattle.mem_fabric.specs.Network.{Chance, Network, nothing, moved, runs, MayGive, after_open, after_send, after_move, MayBeTold, after_order, IsOldest, after_given}
 
--- One call on a network. A move that runs a request has its reply with it, and one that restarts a node whether its disks were opened. A call that found no memory did nothing, though it may have
--- been given a move.
+-- One call on a network, with what chance decided. A call that found no memory did nothing, though it may have been given a move.
 pub data Act : Type 0 where
   Opens : Shape → Act
   Sends : (node : ℕ) → (frame : List ℕ) → Act
-  Orders : Order → (answer : Told) → Act
+  Orders : Order → (answer : Told) → (done : List ℕ) → Act
   Gives : Event → Act
-  Moves : Move → Reply → (opened : Bool) → Act
+  Moves : Move → Chance → Act
   Fails : Option Move → Act
 
 abbrev pub acted : Network → Act → Network
 acted n (Opens shape) = after_open n shape
 acted n (Sends node frame) = after_send n node frame
-acted n (Orders order answer) = after_order n order answer
+acted n (Orders order answer done) = after_order n order answer done
 acted n (Gives event) = after_given n event
-acted n (Moves chosen reply opened) = after_move n (moved n reply opened chosen)
+acted n (Moves chosen chance) = after_move n (moved n chance chosen)
 acted n (Fails chosen) = n
 
 -- The act may come next: opening comes once, and before all others that do something, and a move where no event waits to be given.
 abbrev pub MayAct : Network → Act → Type 0
 MayAct n (Opens shape) = n ≡ nothing
 MayAct n (Sends node frame) = HasNode n.shape node
-MayAct n (Orders order answer) = TakesOrder n.shape order × MayBeTold n order answer
+MayAct n (Orders order answer done) = TakesOrder n.shape order × MayBeTold n order answer
 MayAct n (Gives event) = IsOldest n.queue event
-MayAct n (Moves chosen reply opened) = IsSome n.shape × (n.queue ≡ []) × MayGive n (runs n chosen) reply
+MayAct n (Moves chosen chance) = IsSome n.shape × (n.queue ≡ []) × MayGive n (runs n chosen) chance.reply
 MayAct n (Fails chosen) = Unit {0}
 
 -- the network after acts, the newest first
@@ -56,7 +54,7 @@ abbrev pub AtMostOne : List Move → List Move → Type 0
 AtMostOne given given' = (chosen : Option Move) × (given' ≡ given ++ list_of chosen)
 
 abbrev pub move_in : Act → List Move
-move_in (Moves chosen reply opened) = chosen ∷ []
+move_in (Moves chosen chance) = chosen ∷ []
 move_in (Fails chosen) = list_of chosen
 move_in _ = []
 
@@ -82,7 +80,7 @@ Plays given n given' n' whole = (acts : List Act) × (whole ≡ true → DidAll 
 
 -- the order that an act carries out
 abbrev pub order_in : Act → List OrderAnswer
-order_in (Orders order answer) = record { order = order; answer = answer } ∷ []
+order_in (Orders order answer done) = record { order = order; answer = answer } ∷ []
 order_in _ = []
 
 -- the orders that acts carry out

@@ -24,9 +24,9 @@ did_on : (later before : List Act) → DidAll later → DidAll before → DidAll
 did_on [] before a b = b
 did_on (Opens shape ∷ later) before a b = did_on later before a b
 did_on (Sends node frame ∷ later) before a b = did_on later before a b
-did_on (Orders order answer ∷ later) before a b = did_on later before a b
+did_on (Orders order answer done ∷ later) before a b = did_on later before a b
 did_on (Gives event ∷ later) before a b = did_on later before a b
-did_on (Moves chosen reply opened ∷ later) before a b = did_on later before a b
+did_on (Moves chosen chance ∷ later) before a b = did_on later before a b
 did_on (Fails chosen ∷ later) before a b = absurd a
 
 by_nothing : (given : List Move) (n : Network) → PlaysBy [] given n given n

@@ -1,21 +1,21 @@
 -- What is in flight and who is stopped, and what that has to do with what was told.
 use Rattle.std.specs.Prelude.{◌≡◌, ℕ, ◌<◌, ◌≤◌, ◌^◌, ◌==◌, Bool, false, List, [], ◌∷◌, length, map, All, slice_get, Option, Some, None}
 use Rattle.std.specs.List.{list_any}
+use Rattle.cell_model.specs.declared.ask.Ask.{Ask}
 use Rattle.cell_model.specs.declared.ask.Reply.{Reply}
 use Rattle.req_frame.specs.declared.frame.Body.{Body}
 use Rattle.req_frame.specs.declared.frame.Frame.{Frame}
 use Rattle.req_frame.specs.Spelling.{IsFrame}
-use Rattle.mem_fabric.specs.Asking.{Reads}
-use Rattle.mem_fabric.specs.declared.asking.Question.{Question}
+use Rattle.mem_fabric.specs.declared.doubts.Doubt.{Doubt}
 use Rattle.mem_fabric.specs.declared.flight.Asked.{Asked}
 use Rattle.mem_fabric.specs.declared.flight.Replied.{Replied}
 use Rattle.mem_fabric.specs.declared.past.Past.{Past, Begun}
 use Rattle.mem_fabric.specs.Network.{Network, MayGive, runs_at, ran, after_move}
-use Rattle.lab_nodes.specs.Holding.{settings_of}
-use Rattle.lab_nodes.specs.Layouts.{Layouts}
-use Rattle.mem_fabric.specs.Packing.{AllPacked, layouts_after}
+use Rattle.mem_fabric.specs.Doubts.{AreDoubtsOf}
 use Rattle.mem_fabric.specs.Past.{calls_of}
-use Rattle.mem_fabric.specs.Torn.{has_torn}
+use Rattle.node_core.specs.Requests.{request_in}
+use Rattle.node_lab.specs.Replicas.{settings_of}
+use Rattle.node_lab.specs.RunPlaces.{AllPacked, Known, places_after}
 use Rattle.world_model.specs.declared.shape.Shape.{Shape}
 use Rattle.world_model.specs.declared.step.Event.{Event}
 use Rattle.world_model.specs.Frames.{frame_in}
@@ -25,7 +25,8 @@ use Rattle.world_model.specs.Shape.{IsShape}
 use Rattle.world_model.specs.Told.{told}
 use Rattle.world_model.specs.World.{Cells, World, nothing_held, Request, Answered, Made, Shows, world, Run}
 
--- what the network was opened for, which nodes are stopped, what is in flight, the events that wait, the counts, the clock, and what was told
+-- what the network was opened for, which nodes are stopped, what is in flight, the events that wait, the counts, the clock, what is in doubt at
+-- replicas whose disks failed, and what was told
 pub record State : Type 0 where
   pub shape : Option Shape
   pub stopped : List ℕ
@@ -35,11 +36,12 @@ pub record State : Type 0 where
   pub sent : ℕ
   pub answered : ℕ
   pub clock : ℕ
+  pub doubts : List Doubt
   pub past : Past
 
 -- never opened
 abbrev pub fresh_state : State
-fresh_state = record { shape = None; stopped = []; requests = []; replies = []; queue = []; sent = 0; answered = 0; clock = 0; past = Begun }
+fresh_state = record { shape = None; stopped = []; requests = []; replies = []; queue = []; sent = 0; answered = 0; clock = 0; doubts = []; past = Begun }
 
 -- the world that was told
 abbrev pub told_world : Past → World
@@ -67,7 +69,7 @@ AllShow [] [] = Unit {0}
 AllShow (made ∷ rest) (event ∷ events) = Shows made event × AllShow rest events
 AllShow _ _ = ⊥
 
--- The state is that of a world, whatever is held and in doubt there. What waits there is queued, no request in flight goes to a stopped node, and no
+-- The state is that of a world, whatever is held there. What waits there is queued, no request in flight goes to a stopped node, and no
 -- reply in flight is of one.
 pub record IsStateOf (w : World) (s : State) : Type 0 where
   pub stopped : (n : ℕ) → w.stopped n ≡ is_among s.stopped n
@@ -79,6 +81,7 @@ pub record IsStateOf (w : World) (s : State) : Type 0 where
   pub running : All (λ asked. is_among s.stopped asked.node ≡ false) s.requests
   pub replies : All (IsGiven w.replies) s.replies
   pub answering : All (λ replied. is_among s.stopped replied.node ≡ false) s.replies
+  pub doubts : AreDoubtsOf w s.doubts
 
 -- what holds at any time
 pub record IsSound (s : State) : Type 0 where
@@ -100,28 +103,23 @@ replied_number replied = replied.number
 abbrev pub network_of : State → Network
 network_of s = record { shape = s.shape; calls = calls_of s.past; requests = map asked_number s.requests; replies = map replied_number s.replies; queue = s.queue }
 
--- what was packed still is, and the layouts stay
-abbrev pub KeepsLayouts : Shape → Cells → Layouts → (old new : Record) → Type 0
-KeepsLayouts shape opening first old new =
+-- what was packed still is, and replicas have what they had: the cells, what is in doubt, and the layouts
+abbrev pub KeepsPlaces : Shape → Cells → Known → (old new : Record) → Type 0
+KeepsPlaces shape opening first old new =
     (AllPacked shape opening first old → AllPacked shape opening first new)
-    × (layouts_after (settings_of shape) opening first new ≡ layouts_after (settings_of shape) opening first old)
+    × (places_after (settings_of shape) opening first new ≡ places_after (settings_of shape) opening first old)
 
--- Where what was told was a run, from whatever cells, it still is one, and what is held and in doubt stays, and how it is packed.
+-- Where what was told was a run, from whatever cells, it still is one, and what replicas have stays.
 abbrev pub KeepsState : State → State → Type 0
 KeepsState old new = (opening : Cells)
     → (Run opening (told (calls_of old.past)) → Run opening (told (calls_of new.past)))
-    × ((world opening (told (calls_of new.past))).cells ≡ (world opening (told (calls_of old.past))).cells)
-    × (has_torn (calls_of new.past) ≡ has_torn (calls_of old.past))
-    × ((shape : Shape) (first : Layouts) → KeepsLayouts shape opening first (told (calls_of old.past)) (told (calls_of new.past)))
-
--- the frame of a request asks this
-abbrev pub AskedAs : Option Asked → Question → Type 0
-AskedAs None question = ⊥
-AskedAs (Some asked) question = Reads (frame_in asked.frame) (Some question)
+    × ((shape : Shape) (first : Known) → KeepsPlaces shape opening first (told (calls_of old.past)) (told (calls_of new.past)))
 
 -- the request at a place asks this
-abbrev pub QuestionAt : State → ℕ → Question → Type 0
-QuestionAt s place question = AskedAs (slice_get s.requests place) question
+pub record AsksAt (s : State) (place : ℕ) (correlation partition : ℕ) (ask : Ask) : Type 0 where
+  pub request : Asked
+  pub here : slice_get s.requests place ≡ Some request
+  pub reads : request_in request.frame ≡ Some (correlation, partition, ask)
 
 -- the request at a place was run, and its event given; without a place a move on nothing was done
 pub record RunsRequest (old : State) (place : Option ℕ) (stays : Bool) (event : Event) (new : State) : Type 0 where

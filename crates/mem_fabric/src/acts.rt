@@ -1,13 +1,14 @@
 //! What moves and orders do to the nodes, and to what is in flight.
 
-ghost use Rattle.std.specs.Prelude.{true, false, ◌≡◌, ◌≤◌, Bool, cond, [], IfOk, IsSome, OnOk, OnErr};
-ghost use Rattle.lab_nodes.specs.Spots.{HasFailed};
+ghost use Rattle.std.specs.Prelude.{true, false, ◌≡◌, ◌≤◌, ℕ, Bool, List, cond, [], IfOk, IsSome, OnOk, OnErr};
 ghost use Rattle.mem_fabric.specs.Acting.{told_of};
+ghost use Rattle.mem_fabric.specs.Causes.{FailsByItself, RestartFailed, RestartRefused};
 ghost use Rattle.mem_fabric.specs.Going.{AreNodesOf, GoesOn};
 ghost use Rattle.mem_fabric.specs.Network.{Does, MayRestart, Obeys, after_move, after_order, after_stop, halted, is_stopped, quiet, restarts, resumed, stops};
 ghost use Rattle.mem_fabric.specs.Sound.{is_among, network_of};
 ghost use Rattle.world_model.specs.declared.order.Order.{Order};
 ghost use Rattle.world_model.specs.declared.order.PullCause.{PullCause};
+ghost use Rattle.world_model.specs.declared.order.Refusal.{Refusal};
 ghost use Rattle.world_model.specs.declared.order.Told.{Told};
 ghost use Rattle.world_model.specs.Fabric.{TakesOrder};
 
@@ -15,7 +16,7 @@ use crate::cluster::Cluster;
 use crate::flight::place_among;
 use blob_id::Memory;
 use disk_core::Bays;
-use lab_nodes::{LabNodes, NodesFault};
+use node_lab::{LabNodes, NodesFault};
 use world_model::{Event, Move, Order, PullCause, Told};
 
 /// What an order to let a node run again is told where its disks weren't opened.
@@ -39,13 +40,18 @@ impl Cluster {
         requires of { AreNodesOf self.old nodes.old }
         requires open { IsSome self.old.shape }
         ensures may { MayRestart true node result }
-        ensures network { network_of self.new ≡ after_order (network_of self.old) (Order.Restart node) result }
-        ensures stuck { result ≡ Told.Stuck PullCause.Fault → HasFailed B.Disk.faults (B.faults nodes.old.bays) (B.faults nodes.new.bays) }
+        ensures network { (done : List ℕ) × (network_of self.new ≡ after_order (network_of self.old) (Order.Restart node) result done) }
+        ensures stuck { result ≡ Told.Stuck PullCause.Fault → RestartFailed B.tells B.Disk.tells B.Disk.content B.Disk.size B.faults B.Disk.faults B.home B.out node nodes.old nodes.new }
+        ensures refused { (refusal : Refusal) → result ≡ Told.Refused refusal → RestartRefused B.tells B.Disk.tells B.Disk.content B.Disk.size B.faults B.Disk.faults B.home B.out node nodes.old refusal }
+        ensures never { (refusal : Refusal) → result ≡ Told.Refused refusal → B.Disk.tells → ⊥ }
         ensures later { B.faults nodes.old.bays ≤ B.faults nodes.new.bays }
-        ensures goes { GoesOn B.tells B.Disk.tells B.Disk.content B.Disk.faults B.home B.out B.same self.old nodes.old self.new nodes.new }
+        ensures goes { GoesOn B.tells B.Disk.tells B.Disk.content B.home B.out B.same self.old nodes.old self.new nodes.new }
     {
         match nodes.restart(node) {
-            Ok(()) => self.restart(node),
+            Ok(()) => {
+                self.restart(nodes, node, true);
+                Told::Done
+            }
             Err(fault) => self.stay(Order::Restart(node), told_of(fault)),
         }
     }
@@ -61,7 +67,7 @@ impl Cluster {
         ensures ok { OnOk result (network_of self.new ≡ after_stop (network_of self.old) node) }
         ensures err { OnErr result (self.new ≡ self.old) }
         ensures faults { B.faults nodes.new.bays ≡ B.faults nodes.old.bays }
-        ensures goes { GoesOn B.tells B.Disk.tells B.Disk.content B.Disk.faults B.home B.out B.same self.old nodes.old self.new nodes.new }
+        ensures goes { GoesOn B.tells B.Disk.tells B.Disk.content B.home B.out B.same self.old nodes.old self.new nodes.new }
     {
         let answer = self.stop(node)?;
         nodes.stop(node);
@@ -76,9 +82,13 @@ impl Cluster {
         requires of { AreNodesOf self.old nodes.old }
         ensures obeys { IfOk result (λ answer. Obeys (network_of self.old) order answer (network_of self.new)) }
         ensures err { OnErr result (self.new ≡ self.old) }
-        ensures stuck { IfOk result (λ answer. answer ≡ Told.Stuck PullCause.Fault → HasFailed B.Disk.faults (B.faults nodes.old.bays) (B.faults nodes.new.bays)) }
+        // A node that was to run again doesn't where bays or a disk of its own failed in this order, or a disk of it can't be opened, which
+        // comes never over disks that tell, since each was open before.
+        ensures stuck { (node : ℕ) → order ≡ Order.Restart node → IfOk result (λ answer. answer ≡ Told.Stuck PullCause.Fault → RestartFailed B.tells B.Disk.tells B.Disk.content B.Disk.size B.faults B.Disk.faults B.home B.out node nodes.old nodes.new) }
+        ensures refused { (node : ℕ) (refusal : Refusal) → order ≡ Order.Restart node → IfOk result (λ answer. answer ≡ Told.Refused refusal → RestartRefused B.tells B.Disk.tells B.Disk.content B.Disk.size B.faults B.Disk.faults B.home B.out node nodes.old refusal) }
+        ensures never { (refusal : Refusal) → IfOk result (λ answer. answer ≡ Told.Refused refusal → B.Disk.tells → ⊥) }
         ensures later { B.faults nodes.old.bays ≤ B.faults nodes.new.bays }
-        ensures goes { GoesOn B.tells B.Disk.tells B.Disk.content B.Disk.faults B.home B.out B.same self.old nodes.old self.new nodes.new }
+        ensures goes { GoesOn B.tells B.Disk.tells B.Disk.content B.home B.out B.same self.old nodes.old self.new nodes.new }
     {
         match order {
             Order::Stop(node) => if self.is_stopped(node) {
@@ -106,7 +116,7 @@ impl Cluster {
         ensures broken { IfOk result (λ event. event ≡ Event.Broken node) }
         ensures network { OnOk result (network_of self.new ≡ after_move (network_of self.old) (halted (network_of self.old) node)) }
         ensures err { OnErr result (self.new ≡ self.old) }
-        ensures goes { GoesOn B.tells B.Disk.tells B.Disk.content B.Disk.faults B.home B.out B.same self.old nodes.old self.new nodes.new }
+        ensures goes { GoesOn B.tells B.Disk.tells B.Disk.content B.home B.out B.same self.old nodes.old self.new nodes.new }
     {
         let event = self.halt(node)?;
         nodes.stop(node);
@@ -122,7 +132,7 @@ impl Cluster {
         ensures made { IfOk result (λ event. (stops (network_of self.old) node).event ≡ event) }
         ensures network { OnOk result (network_of self.new ≡ after_move (network_of self.old) (stops (network_of self.old) node)) }
         ensures err { OnErr result (self.new ≡ self.old) }
-        ensures goes { GoesOn B.tells B.Disk.tells B.Disk.content B.Disk.faults B.home B.out B.same self.old nodes.old self.new nodes.new }
+        ensures goes { GoesOn B.tells B.Disk.tells B.Disk.content B.home B.out B.same self.old nodes.old self.new nodes.new }
     {
         if self.is_node(node) && !self.is_stopped(node) {
             self.halt_now(nodes, node)
@@ -140,11 +150,14 @@ impl Cluster {
         requires of { AreNodesOf self.old nodes.old }
         requires open { IsSome self.old.shape }
         ensures quiet { result ≡ Event.Quiet }
-        ensures network { (opened : Bool) × (network_of self.new ≡ after_move (network_of self.old) (cond opened (resumed (network_of self.old) node) (quiet (network_of self.old).requests (network_of self.old).replies))) }
-        ensures goes { GoesOn B.tells B.Disk.tells B.Disk.content B.Disk.faults B.home B.out B.same self.old nodes.old self.new nodes.new }
+        ensures network { (opened : Bool) × (done : List ℕ) × (network_of self.new ≡ after_move (network_of self.old) (cond opened (resumed (network_of self.old) node done) (quiet (network_of self.old).requests (network_of self.old).replies))) }
+        ensures goes { GoesOn B.tells B.Disk.tells B.Disk.content B.home B.out B.same self.old nodes.old self.new nodes.new }
     {
         match nodes.restart(node) {
-            Ok(()) => self.resume(node),
+            Ok(()) => {
+                self.restart(nodes, node, false);
+                Event::Quiet
+            }
             Err(_) => self.rest(),
         }
     }
@@ -155,8 +168,8 @@ impl Cluster {
         B::Disk: Drop,
         requires calm { self.old.queue ≡ [] }
         requires of { AreNodesOf self.old nodes.old }
-        ensures made { (opened : Bool) × ((restarts (network_of self.old) node opened).event ≡ result) × (network_of self.new ≡ after_move (network_of self.old) (restarts (network_of self.old) node opened)) }
-        ensures goes { GoesOn B.tells B.Disk.tells B.Disk.content B.Disk.faults B.home B.out B.same self.old nodes.old self.new nodes.new }
+        ensures made { (opened : Bool) × (done : List ℕ) × ((restarts (network_of self.old) node opened done).event ≡ result) × (network_of self.new ≡ after_move (network_of self.old) (restarts (network_of self.old) node opened done)) }
+        ensures goes { GoesOn B.tells B.Disk.tells B.Disk.content B.home B.out B.same self.old nodes.old self.new nodes.new }
     {
         if self.is_node(node) && self.is_stopped(node) {
             self.resume_now(nodes, node)
@@ -171,9 +184,12 @@ impl Cluster {
         B::Disk: Drop,
         requires calm { self.old.queue ≡ [] }
         requires of { AreNodesOf self.old nodes.old }
+        requires open { IsSome self.old.shape }
         ensures does { Does (network_of self.old) chosen (network_of self.new) result }
         ensures err { OnErr result (self.new ≡ self.old) }
-        ensures goes { GoesOn B.tells B.Disk.tells B.Disk.content B.Disk.faults B.home B.out B.same self.old nodes.old self.new nodes.new }
+        ensures goes { GoesOn B.tells B.Disk.tells B.Disk.content B.home B.out B.same self.old nodes.old self.new nodes.new }
+        // A request is answered Fault only where the disk of its own replica failed in this very call.
+        ensures fault { FailsByItself B.Disk.tells B.Disk.faults self.old nodes.old self.new nodes.new }
     {
         let requests = self.requests();
         let replies = self.replies();

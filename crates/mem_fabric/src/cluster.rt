@@ -1,26 +1,31 @@
 //! What is in flight between the nodes and the router, and what was told.
 
-ghost use Rattle.std.specs.Prelude.{false, true, ◌≡◌, ◌<◌, [], ◌∷◌, length, Some, OnOk, OnErr, IfOk, IfSome};
+ghost use Rattle.std.specs.Prelude.{false, true, ◌≡◌, ◌<◌, [], length, Some, IsSome, OnOk, OnErr, IfOk, IfSome};
+ghost use Rattle.cell_model.specs.Asks.{AsksInRange};
+ghost use Rattle.node_core.specs.Requests.{IsRequested};
+ghost use Rattle.mem_fabric.specs.Causes.{FailsByItself};
 ghost use Rattle.mem_fabric.specs.Going.{AreNodesOf, GoesOn, IsStopped, RunsAgain, SameNodes};
-ghost use Rattle.mem_fabric.specs.Network.{nothing, after_open, after_steps, after_send, after_stop, after_given, after_move, ticked, dropped, dropped_reply, handed, quiet, taken, is_node, is_stopped, broken, cut, halted, resumed, IsOldest, Within};
-ghost use Rattle.mem_fabric.specs.Sound.{State, fresh_state, is_among, network_of, KeepsState, QuestionAt, RunsRequest};
+ghost use Rattle.mem_fabric.specs.Network.{nothing, after_open, after_steps, after_send, after_stop, after_given, after_move, ticked, dropped, dropped_reply, handed, quiet, taken, is_node, is_stopped, broken, cut, halted, IsOldest, Within};
+ghost use Rattle.mem_fabric.specs.Sound.{State, fresh_state, is_among, network_of, AsksAt, KeepsState, RunsRequest};
+ghost use Rattle.mem_fabric.specs.Restarts.{Settles};
 ghost use Rattle.mem_fabric.specs.Past.{calls_of, order_steps};
 ghost use Rattle.world_model.specs.declared.order.Order.{Order};
 ghost use Rattle.world_model.specs.declared.order.Told.{Told};
 ghost use Rattle.world_model.specs.declared.step.Did.{Did};
-ghost use Rattle.world_model.specs.declared.step.Step.{Step};
 ghost use Rattle.world_model.specs.Fabric.{Awaits};
 ghost use Rattle.world_model.specs.Shape.{IsShape};
 
-use crate::asking::{Question, question_in};
+use crate::doubts::{Doubt, brought_by, drop_doubts, keep_landed, note_doubt};
 use crate::flight::{
     Asked, Replied, add, drop_asked, drop_replied, is_among, place_among, push, silence, take_node,
     take_out,
 };
 use crate::past::Past;
 use blob_id::{Bytes, Memory};
+use cell_model::Ask;
 use disk_core::Bays;
-use lab_nodes::LabNodes;
+use node_core::read_request;
+use node_lab::LabNodes;
 use req_frame::{Body, Frame, encode};
 use std::alloc::Global;
 use std::marker::Model;
@@ -28,7 +33,7 @@ use std::snapshot::Snapshot;
 use world_model::{Event, Order, Shape, Told};
 
 /// What the network was opened for, which nodes are stopped, what is in flight, the events that wait to be given, how many requests
-/// were sent and replies given, the clock, and what was told.
+/// were sent and replies given, the clock, what is in doubt at replicas whose disks failed, and what was told.
 #[derive(Drop)]
 pub struct Cluster {
     alloc: Global,
@@ -40,6 +45,7 @@ pub struct Cluster {
     sent: u32,
     answered: u32,
     clock: u64,
+    doubts: Vec<Doubt>,
     past: Past,
 }
 
@@ -61,6 +67,7 @@ impl Model for Cluster {
       sent = a.sent;
       answered = a.answered;
       clock = a.clock;
+      doubts = a.doubts.items;
       past = a.past;
     } };
 
@@ -73,6 +80,7 @@ impl Model for Cluster {
       sent = a.sent;
       answered = a.answered;
       clock = a.clock;
+      doubts = a.doubts.items;
       past = a.past;
     }) };
 }
@@ -92,6 +100,7 @@ impl Cluster {
             sent: 0,
             answered: 0,
             clock: 0,
+            doubts: Vec::new(alloc),
             past: Past::Begun,
         }
     }
@@ -241,26 +250,29 @@ impl Cluster {
         Ok(Told::Done)
     }
 
-    /// Lets a stopped node run again, by an order.
-    pub fn restart(&mut self, node: u32) -> Told
+    /// A stopped node whose replicas are open again runs again, by an order or else by a move: what was in doubt there is settled as they
+    /// show. It takes no memory.
+    pub fn restart<B: Bays>(&mut self, nodes: &LabNodes<B>, node: u32, ordered: bool)
+    where
+        B::Disk: Drop,
         requires { is_stopped (network_of self.old) node ≡ true }
-        ensures done { result ≡ Told.Done }
-        ensures network { network_of self.new ≡ after_steps (network_of self.old) (Did.Administered (Order.Restart node) Told.Done) (Step.Restart node [] ∷ []) }
-        ensures run { KeepsState self.old self.new }
+        ensures settles { Settles B.Disk.tells self.old nodes.now node ordered self.new }
         ensures nodes { RunsAgain self.old node self.new }
     {
         take_node(&mut self.stopped, node);
-        self.past = Past::Ordered(
+        keep_landed(&mut self.doubts, nodes, node);
+        self.past = Past::Restarted(
             Snapshot::of(&self.past),
-            Snapshot::of(&Order::Restart(node)),
-            Snapshot::of(&Told::Done),
+            Snapshot::of(&ordered),
+            Snapshot::of(&node),
+            Snapshot::of(&self.doubts),
         );
-        Told::Done
+        drop_doubts(&mut self.doubts, node);
     }
 
     /// An order comes to nothing, and is answered so.
     pub fn stay(&mut self, order: Order, answer: Told) -> Told
-        requires { order_steps order answer ≡ [] }
+        requires { order_steps order answer [] ≡ [] }
         ensures answer { result ≡ answer }
         ensures network { network_of self.new ≡ after_steps (network_of self.old) (Did.Administered order answer) [] }
         ensures run { KeepsState self.old self.new }
@@ -372,37 +384,39 @@ impl Cluster {
         Event::Quiet
     }
 
-    /// The request at a place, which asks this, is run.
+    /// The request at a place, which asks this, is run. Where the replica's disk fails, what it was asked is in doubt there.
     fn answer<B: Bays>(
         &mut self,
         nodes: &mut LabNodes<B>,
         place: usize,
         stays: bool,
-        question: Question,
+        (correlation, partition, ask): (u64, u16, Ask),
     ) -> Result<Event, Memory>
     where
         B::Disk: Drop,
         requires place { place < length self.old.requests }
-        requires asked { QuestionAt self.old place question }
+        requires asked { AsksAt self.old place correlation partition ask }
+        requires range { AsksInRange ask }
+        requires requested { IsRequested ask }
         requires of { AreNodesOf self.old nodes.old }
+        requires open { IsSome self.old.shape }
         ensures made { IfOk result (λ event. RunsRequest self.old (Some place) stays event self.new) }
         ensures err { OnErr result (self.new ≡ self.old) }
-        ensures goes { GoesOn B.tells B.Disk.tells B.Disk.content B.Disk.faults B.home B.out B.same self.old nodes.old self.new nodes.new }
+        ensures goes { GoesOn B.tells B.Disk.tells B.Disk.content B.home B.out B.same self.old nodes.old self.new nodes.new }
+        ensures fault { FailsByItself B.Disk.tells B.Disk.faults self.old nodes.old self.new nodes.new }
     {
         let Some(answered) = self.answered.checked_add(1) else {
             return Err(Memory);
         };
         // What the replica answers is kept in any case, so there is room for it before it is asked.
         self.replies.reserve(1)?;
-        let Question {
-            correlation,
-            partition,
-            ask,
-        } = question;
+        self.doubts.reserve(1)?;
         let request = &self.requests[place];
         let node = request.node;
         let number = request.number;
+        let brought = brought_by(&ask);
         let reply = nodes.ask(node, partition, ask);
+        note_doubt(&mut self.doubts, node, partition, brought, &reply);
         self.past = Past::Ran(
             Snapshot::of(&self.past),
             Snapshot::of(&number),
@@ -439,12 +453,14 @@ impl Cluster {
         B::Disk: Drop,
         requires place { place < length self.old.requests }
         requires of { AreNodesOf self.old nodes.old }
+        requires open { IsSome self.old.shape }
         ensures made { IfOk result (λ event. RunsRequest self.old (Some place) stays event self.new) }
         ensures err { OnErr result (self.new ≡ self.old) }
-        ensures goes { GoesOn B.tells B.Disk.tells B.Disk.content B.Disk.faults B.home B.out B.same self.old nodes.old self.new nodes.new }
+        ensures goes { GoesOn B.tells B.Disk.tells B.Disk.content B.home B.out B.same self.old nodes.old self.new nodes.new }
+        ensures fault { FailsByItself B.Disk.tells B.Disk.faults self.old nodes.old self.new nodes.new }
     {
-        match question_in(self.alloc, self.requests[place].frame.as_slice())? {
-            Some(question) => self.answer(nodes, place, stays, question),
+        match read_request(self.alloc, self.requests[place].frame.as_slice())? {
+            Some(asked) => self.answer(nodes, place, stays, asked),
             None => Ok(self.leave_request(place, stays)),
         }
     }
@@ -461,9 +477,11 @@ impl Cluster {
         requires calm { self.old.queue ≡ [] }
         requires place { Within place (length self.old.requests) }
         requires of { AreNodesOf self.old nodes.old }
+        requires open { IsSome self.old.shape }
         ensures made { IfOk result (λ event. RunsRequest self.old place stays event self.new) }
         ensures err { OnErr result (self.new ≡ self.old) }
-        ensures goes { GoesOn B.tells B.Disk.tells B.Disk.content B.Disk.faults B.home B.out B.same self.old nodes.old self.new nodes.new }
+        ensures goes { GoesOn B.tells B.Disk.tells B.Disk.content B.home B.out B.same self.old nodes.old self.new nodes.new }
+        ensures fault { FailsByItself B.Disk.tells B.Disk.faults self.old nodes.old self.new nodes.new }
     {
         match place {
             Some(place) => self.run(nodes, place, stays),
@@ -551,18 +569,5 @@ impl Cluster {
         );
         self.past = Past::Stopped(Snapshot::of(&self.past), Snapshot::of(&node));
         Ok(Event::Broken { node })
-    }
-
-    /// A stopped node runs again, by a move.
-    pub fn resume(&mut self, node: u32) -> Event
-        requires { is_stopped (network_of self.old) node ≡ true }
-        ensures quiet { result ≡ Event.Quiet }
-        ensures network { network_of self.new ≡ after_move (network_of self.old) (resumed (network_of self.old) node) }
-        ensures run { KeepsState self.old self.new }
-        ensures nodes { RunsAgain self.old node self.new }
-    {
-        take_node(&mut self.stopped, node);
-        self.past = Past::Restarted(Snapshot::of(&self.past), Snapshot::of(&node));
-        Event::Quiet
     }
 }

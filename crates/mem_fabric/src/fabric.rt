@@ -1,27 +1,28 @@
 //! The network with its schedule.
 
-ghost use Rattle.std.specs.Prelude.{◌≡◌, ℕ, ◌≤◌, List, [], true, false, Some, None, IsSome, IfOk, OnOk, OnErr, IsErrOf, cond};
+ghost use Rattle.std.specs.Prelude.{◌≡◌, ◌⊎◌, ℕ, ◌≤◌, List, [], true, false, Some, None, IsSome, IfOk, OnOk, OnErr, IsErrOf, cond};
 ghost use Rattle.std.specs.Option.{is_some};
 ghost use Rattle.std.specs.Result.{is_ok};
-ghost use Rattle.lab_nodes.specs.Layouts.{HomeHasLayouts, Layouts};
-ghost use Rattle.lab_nodes.specs.Nodes.{HomeHolds, is_up, never_opened};
-ghost use Rattle.lab_nodes.specs.Spots.{DiskFailed, HasFailed};
-ghost use Rattle.lab_nodes.specs.Starting.{IsFirst};
-ghost use Rattle.lab_nodes.specs.declared.places.Which.{Which};
 ghost use Rattle.outside.specs.Causes.{Rose};
 ghost use Rattle.mem_fabric.specs.Advancing.{PlaysOver};
 ghost use Rattle.mem_fabric.specs.AdvancingLaws.{over_nothing, over_on, over_anyhow};
-ghost use Rattle.mem_fabric.specs.Going.{AreNodesOf, HasTornBy};
+ghost use Rattle.mem_fabric.specs.Causes.{FailsByItself, RestartFailed, RestartRefused};
+ghost use Rattle.mem_fabric.specs.Going.{AreNodesOf};
 ghost use Rattle.mem_fabric.specs.Network.{is_stopped};
-ghost use Rattle.mem_fabric.specs.Packing.{PacksFrom};
 ghost use Rattle.mem_fabric.specs.Past.{calls_of};
 ghost use Rattle.mem_fabric.specs.Played.{AtMostOne};
-ghost use Rattle.mem_fabric.specs.Runs.{RunsFrom};
+ghost use Rattle.mem_fabric.specs.Runs.{KeepsRuns, RunsFrom, nothing_known};
 ghost use Rattle.mem_fabric.specs.Sound.{fresh_state, network_of};
 ghost use Rattle.mem_fabric.specs.PlayedLaws.{fresh_told};
-ghost use Rattle.mem_fabric.specs.Torn.{has_torn};
+ghost use Rattle.node_lab.specs.Nodes.{HomeHolds, has_replica, never_opened, replica_at, slot_at};
+ghost use Rattle.node_lab.specs.Places.{Places};
+ghost use Rattle.node_lab.specs.Refusals.{IsFirst};
+ghost use Rattle.node_lab.specs.Replicas.{settings_of};
+ghost use Rattle.node_lab.specs.RunPlaces.{Known, places_after};
+ghost use Rattle.node_lab.specs.Slots.{SomeFailed};
 ghost use Rattle.world_model.specs.Advancing.{Advances, is_whole};
 ghost use Rattle.world_model.specs.Fabric.{Gave, HasNode, IsOpening, KeepsRun, NoStepWhereOneWaited, TakesOrder, Tells, TellsOrder, TellsSend};
+ghost use Rattle.world_model.specs.declared.order.Order.{Order};
 ghost use Rattle.world_model.specs.declared.order.PullCause.{PullCause};
 ghost use Rattle.world_model.specs.declared.order.Refusal.{Refusal};
 ghost use Rattle.world_model.specs.declared.order.Told.{Told};
@@ -35,7 +36,7 @@ ghost use Rattle.world_model.specs.declared.fabric.StartFault.{StartFault};
 use crate::cluster::Cluster;
 use blob_id::Memory;
 use disk_core::Bays;
-use lab_nodes::{LabNodes, NodesFault};
+use node_lab::{LabNodes, NodesFault};
 use std::alloc::Global;
 use world_model::{Event, Fabric, Moves, Order, SendFault, Shape, StartFault, Told};
 
@@ -54,7 +55,6 @@ pub struct MemFabric<B: Bays, M> {
     ghost unopened: { fresh ≡ true → nodes ≡ never_opened nodes.bays },
     ghost shaped: { opened ≡ true → is_some cluster.shape ≡ true },
     ghost of: { opened ≡ true → AreNodesOf cluster nodes },
-    ghost torn: { HasTornBy B.Disk.tells B.Disk.faults cluster },
 }
 
 impl<B: Bays, M: Moves> MemFabric<B, M>
@@ -68,9 +68,9 @@ where
         ensures moves { result.moves ≡ moves }
         ensures nodes { result.nodes ≡ never_opened bays }
         ensures faults { result.faults ≡ 0 }
-        ensures holds { (shape : Shape) (folder : List ℕ) (opening : Cells) → (B.Disk.tells → HomeHolds B.Disk.content B.home shape folder bays opening) → ⟦<MemFabric<B, M> as Fabric>⟧.runs result shape folder opening }
-        ensures packs { (shape : Shape) (folder : List ℕ) (opening : Cells) (first : Layouts) → (B.Disk.tells → HomeHolds B.Disk.content B.home shape folder bays opening) → (B.Disk.tells → HomeHasLayouts B.Disk.content B.home shape folder bays first)
-            → PacksFrom B.Disk.tells B.Disk.content B.home [] result.nodes shape folder opening first }
+        // What it will tell is a run from what the disks at home stand for, and from what is known of their layouts.
+        ensures begins { (shape : Shape) (folder : List ℕ) (opening : Cells) (first : Known) → (B.Disk.tells → HomeHolds B.Disk.content B.home shape folder bays (places_after (settings_of shape) opening first []))
+            → RunsFrom B.Disk.tells B.Disk.content B.home [] result.nodes shape folder opening first }
     {
         MemFabric {
             cluster: Cluster::new(alloc),
@@ -107,6 +107,7 @@ where
         ensures net { Advances ⟦<Self as Fabric>⟧.faults ⟦<Self as Fabric>⟧.opened ⟦<Self as Fabric>⟧.runs ⟦<Self as Fabric>⟧.advances self.old self.new (is_ok result) }
         ensures most { OnErr result (AtMostOne (M.given self.old.moves) (M.given self.new.moves)) }
         ensures count { self.new.faults ≡ self.old.faults }
+        ensures fault { FailsByItself B.Disk.tells B.Disk.faults self.old.cluster self.old.nodes self.new.cluster self.new.nodes }
     {
         let shape = self.cluster.shape().unwrap();
         self.moves.ready()?;
@@ -132,9 +133,9 @@ where
 
     ghost told = { λ f. Some (calls_of f.cluster.past) };
 
-    ghost knows = { λ f. B.Disk.tells × (has_torn (calls_of f.cluster.past) ≡ false) };
+    ghost knows = { λ f. B.Disk.tells };
 
-    ghost runs = { λ f shape folder opening. RunsFrom B.Disk.tells B.Disk.content B.home (calls_of f.cluster.past) f.nodes shape folder opening };
+    ghost runs = { λ f shape folder opening. RunsFrom B.Disk.tells B.Disk.content B.home (calls_of f.cluster.past) f.nodes shape folder opening nothing_known };
 
     ghost advances = { λ f g whole. PlaysOver B.tells B.Disk.tells B.Disk.content B.home B.out B.same M.given M.seeds M.same f.moves f.cluster f.nodes g.moves g.cluster g.nodes whole };
 
@@ -148,15 +149,17 @@ where
         ensures opened { OnOk result (cond self.new.opened self.new.cluster.shape None ≡ Some shape.now) }
         ensures told { OnOk result (Tells (Some (calls_of self.old.cluster.past)) (Some (calls_of self.new.cluster.past)) IsOpening) }
         ensures err { OnErr result (Some (calls_of self.new.cluster.past) ≡ Some (calls_of self.old.cluster.past)) }
-        ensures run { OnOk result (KeepsRun (RunsFrom B.Disk.tells B.Disk.content B.home (calls_of self.old.cluster.past) self.old.nodes shape.now folder.now) (RunsFrom B.Disk.tells B.Disk.content B.home (calls_of self.new.cluster.past) self.new.nodes shape.now folder.now)) }
+        ensures run { OnOk result (KeepsRun (λ opening. RunsFrom B.Disk.tells B.Disk.content B.home (calls_of self.old.cluster.past) self.old.nodes shape.now folder.now opening nothing_known) (λ opening. RunsFrom B.Disk.tells B.Disk.content B.home (calls_of self.new.cluster.past) self.new.nodes shape.now folder.now opening nothing_known)) }
         ensures net { ⟦<Self as Fabric>⟧.advances self.old self.new (is_ok result) }
         ensures count { (IsErrOf result StartFault.Failed → ⊥) → self.new.faults ≡ self.old.faults }
-        ensures failed { IsErrOf result StartFault.Failed → HasFailed B.Disk.faults (B.faults self.old.nodes.bays) (B.faults self.new.nodes.bays) }
-        ensures refused { (refusal : Refusal) → IsErrOf result (StartFault.Refused refusal) → B.tells → IsFirst B.Disk.tells B.Disk.content B.Disk.size Which.All shape.now folder.now (B.home self.old.nodes.bays) refusal }
-        ensures stays { OnErr result (B.Disk.tells → (cells : Cells) → HomeHolds B.Disk.content B.home shape.now folder.now self.old.nodes.bays cells → HomeHolds B.Disk.content B.home shape.now folder.now self.new.nodes.bays cells) }
+        // Bays failed in this call, or the disk of a replica of the shape.
+        ensures failed { IsErrOf result StartFault.Failed → Rose (B.faults self.old.nodes.bays) (B.faults self.new.nodes.bays) ⊎ (B.tells → SomeFailed B.Disk.tells B.Disk.content B.Disk.size B.Disk.faults (has_replica shape.now)
+            (slot_at B.home B.out folder.now self.old.nodes) (slot_at B.home B.out folder.now self.new.nodes)) }
+        ensures refused { (refusal : Refusal) → IsErrOf result (StartFault.Refused refusal) → B.tells → IsFirst B.Disk.tells B.Disk.content B.Disk.size (has_replica shape.now) (settings_of shape.now) (B.home self.old.nodes.bays folder.now) refusal }
+        ensures stays { OnErr result (B.Disk.tells → (places : Places) → HomeHolds B.Disk.content B.home shape.now folder.now self.old.nodes.bays places → HomeHolds B.Disk.content B.home shape.now folder.now self.new.nodes.bays places) }
         ensures standing { OnOk result (IsSome self.new.nodes.shape) }
-        ensures packing { (opening : Cells) (first : Layouts) → PacksFrom B.Disk.tells B.Disk.content B.home (calls_of self.old.cluster.past) self.old.nodes shape.now folder.now opening first → PacksFrom B.Disk.tells B.Disk.content B.home (calls_of self.new.cluster.past) self.new.nodes shape.now folder.now opening first }
-        ensures shut { OnErr result ((n p : ℕ) → is_up self.new.nodes n p ≡ false) }
+        ensures leads { KeepsRuns B.Disk.tells B.Disk.content B.home (calls_of self.old.cluster.past) self.old.nodes (calls_of self.new.cluster.past) self.new.nodes shape.now folder.now }
+        ensures shut { OnErr result ((n p : ℕ) → replica_at self.new.nodes n p ≡ None) }
         ensures unmoved { OnErr result (self.new.moves ≡ self.old.moves) }
         ensures later_bays { B.faults self.old.nodes.bays ≤ B.faults self.new.nodes.bays }
     {
@@ -212,6 +215,8 @@ where
         ensures err { OnErr result (Some (calls_of self.new.cluster.past) ≡ Some (calls_of self.old.cluster.past)) }
         ensures most { OnErr result (AtMostOne (M.given self.old.moves) (M.given self.new.moves)) }
         ensures count { self.new.faults ≡ self.old.faults }
+        // A request is answered Fault only where the disk of its own replica failed in this very call.
+        ensures fault { FailsByItself B.Disk.tells B.Disk.faults self.old.cluster self.old.nodes self.new.cluster self.new.nodes }
     {
         if self.cluster.queued() == 0 {
             self.move_on()
@@ -227,7 +232,11 @@ where
         ensures cause { IsErrOf result SendFault.Failed → Rose self.old.faults self.new.faults }
         ensures told { TellsOrder result (Some (calls_of self.old.cluster.past)) (Some (calls_of self.new.cluster.past)) order.now }
         ensures never { IsErrOf result SendFault.Failed → ⊥ }
-        ensures stuck { IfOk result (λ answer. answer ≡ Told.Stuck PullCause.Fault → HasFailed B.Disk.faults (B.faults self.old.nodes.bays) (B.faults self.new.nodes.bays)) }
+        // A node that was to run again doesn't where bays or a disk of its own failed in this order, or a disk of it can't be opened, which
+        // comes never over disks that tell, since each was open before.
+        ensures stuck { (node : ℕ) → order.now ≡ Order.Restart node → IfOk result (λ answer. answer ≡ Told.Stuck PullCause.Fault → RestartFailed B.tells B.Disk.tells B.Disk.content B.Disk.size B.faults B.Disk.faults B.home B.out node self.old.nodes self.new.nodes) }
+        ensures refused { (node : ℕ) (refusal : Refusal) → order.now ≡ Order.Restart node → IfOk result (λ answer. answer ≡ Told.Refused refusal → RestartRefused B.tells B.Disk.tells B.Disk.content B.Disk.size B.faults B.Disk.faults B.home B.out node self.old.nodes refusal) }
+        ensures never_refused { (refusal : Refusal) → IfOk result (λ answer. answer ≡ Told.Refused refusal → B.Disk.tells → ⊥) }
         ensures later_bays { B.faults self.old.nodes.bays ≤ B.faults self.new.nodes.bays }
         ensures count { self.new.faults ≡ self.old.faults }
     {
@@ -247,11 +256,10 @@ where
         ensures later { self.old.faults ≤ self.new.faults }
         ensures opened { cond self.new.opened self.new.cluster.shape None ≡ None }
         ensures told { Some (calls_of self.new.cluster.past) ≡ Some (calls_of self.old.cluster.past) }
-        ensures run { (cluster : Shape) (place : List ℕ) → KeepsRun (RunsFrom B.Disk.tells B.Disk.content B.home (calls_of self.old.cluster.past) self.old.nodes cluster place) (RunsFrom B.Disk.tells B.Disk.content B.home (calls_of self.new.cluster.past) self.new.nodes cluster place) }
+        ensures run { (cluster : Shape) (place : List ℕ) → KeepsRun (λ opening. RunsFrom B.Disk.tells B.Disk.content B.home (calls_of self.old.cluster.past) self.old.nodes cluster place opening nothing_known) (λ opening. RunsFrom B.Disk.tells B.Disk.content B.home (calls_of self.new.cluster.past) self.new.nodes cluster place opening nothing_known) }
         ensures net { ⟦<Self as Fabric>⟧.advances self.old self.new true }
         ensures count { self.new.faults ≡ self.old.faults }
-        ensures home { (n p : ℕ) → is_up self.new.nodes n p ≡ false }
-        ensures torn { has_torn (calls_of self.new.cluster.past) ≡ true → B.Disk.tells → ∥ DiskFailed B.Disk.faults ∥₁ }
+        ensures home { (n p : ℕ) → replica_at self.new.nodes n p ≡ None }
         ensures faults { B.faults self.new.nodes.bays ≡ B.faults self.old.nodes.bays }
     {
         self.nodes.close();
@@ -260,7 +268,7 @@ where
 
     ghost fresh_did_nothing = { λ a calls f t. fresh_told a.fresh a.cluster calls a.empty f t };
 
-    ghost runs_by_rules = { λ a cluster place opening k r. (r k.0 k.1).run };
+    ghost runs_by_rules = { λ a cluster place opening k r. (r k).run };
 
     ghost advances_nowhere = { λ f. over_nothing B.tells B.Disk.tells B.Disk.content B.home B.out B.same M.given M.seeds M.same f.moves f.cluster f.nodes (M.same_self f.moves) (B.same_self f.nodes.bays) };
 

@@ -43,8 +43,8 @@
 #![tactic(auto)]
 
 mod acts;
-mod asking;
 mod cluster;
+mod doubts;
 mod fabric;
 mod flight;
 mod laws;

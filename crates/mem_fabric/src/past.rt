@@ -1,5 +1,6 @@
 //! What a network did so far, for clauses alone.
 
+use crate::doubts::Doubt;
 use blob_id::Bytes;
 use cell_model::Reply;
 use std::snapshot::Snapshot;
@@ -27,8 +28,9 @@ pub enum Past {
     Refused(Snapshot<Past>, Snapshot<u32>, Snapshot<Bytes>),
     /// A move stopped a node.
     Stopped(Snapshot<Past>, Snapshot<u32>),
-    /// A move let a node run again.
-    Restarted(Snapshot<Past>, Snapshot<u32>),
+    /// An order, where that is so, or else a move let a node run again. These are the doubts of other nodes, and those of this node that
+    /// had landed.
+    Restarted(Snapshot<Past>, Snapshot<bool>, Snapshot<u32>, Snapshot<Vec<Doubt>>),
     /// An order was answered so.
     Ordered(Snapshot<Past>, Snapshot<Order>, Snapshot<Told>),
     /// An event that waited was given.

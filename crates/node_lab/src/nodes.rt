@@ -128,6 +128,17 @@ where
         }
     }
 
+    /// The replica of a node and a partition, if it is open.
+    pub fn replica(&self, node: u32, partition: u16) -> Option<&Replica<B::Disk>>
+        ensures { option_copied result ≡ replica_at self.now node partition }
+    {
+        let place = self.place_of(node)?;
+        match &self.nodes[place] {
+            NodeState::Up(core) => core.port(u32::from(partition)),
+            NodeState::Stopped => None,
+        }
+    }
+
     /// The place of a node, if it is one of the shape.
     fn place_of(&self, node: u32) -> Option<usize>
         ensures some { IfSome result (λ place. (node ≡ place + 1) × (place < length self.now.nodes)) }
