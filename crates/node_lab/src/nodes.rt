@@ -1,6 +1,7 @@
 //! The nodes of a cluster, with their bays.
 
 ghost use Rattle.std.specs.Prelude.{◌≡◌, ◌≢◌, ◌⊎◌, ◌+◌, ◌<◌, ◌≤◌, ◌==◌, ℕ, List, [], length, string_bytes, Some, None, true, false, IsSome, IfOk, IfSome, IfNone, OnOk, OnErr, IsErrOf};
+ghost use Rattle.std.specs.Option.{option_copied};
 ghost use Rattle.cell_model.specs.Asks.{AnswersInRange, AsksInRange, CanAnswer};
 ghost use Rattle.cell_model.specs.declared.ask.Reply.{Reply};
 ghost use Rattle.node_lab.specs.Calls.{AsksNodes, AsksPorts, AsksReplica, ClosesNodes, FailedIn, OpensNodes, StayUnopened};
