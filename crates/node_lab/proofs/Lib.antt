@@ -11,3 +11,6 @@ pub mod RunLemmas
 pub mod RefusalLemmas
 pub mod WalkHomeLemmas
 pub mod StopLemmas
+pub mod PortWalkLemmas
+pub mod HostLemmas
+pub mod CountLemmas

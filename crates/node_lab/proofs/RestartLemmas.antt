@@ -1,5 +1,5 @@
 -- What stops and restarts do to the places.
-use Rattle.std.proofs.Common.{◌≡◌, ◌≢◌, ℕ, Bool, true, false, ◌==◌, ◌&&◌, cond, List, Option, Some, None, refl, sym, ◌∙◌, ap, subst}
+use Rattle.std.proofs.Common.{◌≡◌, ◌≢◌, ℕ, zero, suc, Bool, true, false, ◌==◌, ◌&&◌, cond, List, Option, Some, None, refl, sym, ◌∙◌, ap, subst}
 use Rattle.std.specs.Option.{is_some}
 use Rattle.disk_core.specs.Content.{Content}
 use Rattle.disk_core.specs.Homes.{Home, Out}
@@ -106,7 +106,11 @@ module _ {B D : Type 0} (bays_tell tells : Type 0) (content : D → Content) (si
 
 -- where no replica is open, the disks at home stand for what is held
 pub first_held : {B D : Type 0} (content : D → Content) (home : B → Home D) (shape : Shape) (folder : List ℕ) (places : Places) (bays : B) → HomeHolds content home shape folder bays places → Holds content home shape folder places (never_opened bays)
-first_held content home shape folder places bays holds = record { named = tt; each = holds }
+first_held {B} {D} content home shape folder places bays holds = record { named = tt; each = λ n p. at n p (holds n p) }
+  where
+    at : (n p : ℕ) → HoldsAt content (has_replica shape n p) (settings_of shape) None (home bays folder n p) (places n p) → HoldsAt content (has_replica shape n p) (settings_of shape) (replica_at (never_opened {D = D} bays) n p) (home bays folder n p) (places n p)
+    at zero p here = here
+    at (suc n) p here = here
 
 pub all_at_home : {B D : Type 0} (content : D → Content) (home : B → Home D) (shape : Shape) (folder : List ℕ) (places : Places) (nodes : NodesState B D) → ((n p : ℕ) → replica_at nodes n p ≡ None) → Holds content home shape folder places nodes → HomeHolds content home shape folder nodes.bays places
 all_at_home {B} {D} content home shape folder places nodes none holds n p =

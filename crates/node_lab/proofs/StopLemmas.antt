@@ -23,7 +23,7 @@ use Rattle.node_lab.proofs.SlotLemmas.{same_slot}
 no_none : (T : Type 0) → IsSome {T = T} None → ⊥
 no_none T some = absurd (cc some)
 
-not_same : (n node : ℕ) → n ≢ node → (n == node) ≡ false
+pub not_same : (n node : ℕ) → n ≢ node → (n == node) ≡ false
 not_same n node other = go (n == node) refl
   where
     go : (b : Bool) → (n == node) ≡ b → (n == node) ≡ false
