@@ -1,5 +1,6 @@
 pub mod Questions
 pub mod Worlds
+pub mod DoubtLemmas
 pub mod Sounds
 pub mod Stops
 pub mod Making

@@ -6,25 +6,27 @@ use Rattle.std.proofs.lemmas.List.Edits.{length-remove}
 use Rattle.std.proofs.lemmas.List.Elements.{All-head, All-tail, All-filter, All-push, All-weaker, All-append, All-take, All-drop}
 use Rattle.std.proofs.lemmas.List.Sums.{length-filter, count_by-le-length}
 use Rattle.cell_model.specs.declared.ask.Reply.{Reply}
-use Rattle.cell_model.specs.Asks.{AnswersInRange}
-use Rattle.lab_nodes.specs.Layouts.{Layouts}
-use Rattle.lab_nodes.specs.Nodes.{stands}
+use Rattle.cell_model.specs.declared.ask.Ask.{Ask}
+use Rattle.cell_model.specs.Asks.{AnswersInRange, brought, id_of}
 use Rattle.node_core.specs.Requests.{IsRequested}
 use Rattle.node_core.proofs.ReplyLemmas.{answer_exchanged, reply_spelled}
 use Rattle.req_frame.specs.declared.frame.Body.{Body}
 use Rattle.req_frame.specs.declared.frame.Frame.{Frame}
 use Rattle.req_frame.specs.Reading.{frame_of}
 use Rattle.req_frame.specs.Spelling.{frame_text, IsFrame, IsReply}
-use Rattle.mem_fabric.specs.Asking.{IsQuestion}
-use Rattle.mem_fabric.specs.declared.asking.Question.{Question}
+use Rattle.mem_fabric.specs.declared.doubts.Doubt.{Doubt}
+use Rattle.mem_fabric.specs.Doubts.{AreDoubtsOf, brought_by, doubts_asked}
 use Rattle.mem_fabric.specs.declared.flight.Asked.{Asked}
 use Rattle.mem_fabric.specs.declared.flight.Replied.{Replied}
 use Rattle.mem_fabric.specs.declared.past.Past.{Past}
-use Rattle.mem_fabric.specs.Network.{Network, Moved, taken, ticked, quiet, is_to, is_by, requests_elsewhere, replies_elsewhere, broken, handed, reply_event, after_move, after_steps, after_send, after_sent, is_stopped, asked_by, is_fault, run_step, answered, MayAnswer, MayGive}
+use Rattle.mem_fabric.specs.Network.{Network, Moved, taken, ticked, quiet, is_to, is_by, requests_elsewhere, replies_elsewhere, broken, handed, reply_event, after_move, after_steps, after_send, after_sent, is_stopped, asked_by, run_step, answered, MayAnswer, MayGive, stands}
 use Rattle.mem_fabric.specs.Past.{calls_of}
-use Rattle.mem_fabric.specs.Torn.{has_torn}
-use Rattle.mem_fabric.specs.Sound.{State, told_world, IsSent, IsGiven, is_among, AllShow, IsStateOf, IsSound, network_of, KeepsLayouts, KeepsState, asked_number, replied_number, RunsRequest}
-use Rattle.mem_fabric.proofs.Worlds.{goes_to, AllowedOn, AllStill, world_on, run_keeps, cells_keep, torn_keeps, layouts_keep, after_quiet, after_now, after_cut, after_request, after_handed}
+use Rattle.mem_fabric.specs.Sound.{State, told_world, IsSent, IsGiven, is_among, AllShow, IsStateOf, IsSound, network_of, KeepsPlaces, KeepsState, asked_number, replied_number, RunsRequest}
+use Rattle.mem_fabric.proofs.Worlds.{goes_to, AllowedOn, AllStill, world_on, run_keeps, places_keep, after_quiet, after_now, after_cut, after_request, after_handed}
+use Rattle.mem_fabric.proofs.DoubtLemmas.{asked_doubts}
+use Rattle.mem_fabric.proofs.Questions.{Asks}
+use Rattle.node_lab.specs.Places.{is_fault}
+use Rattle.node_lab.specs.RunPlaces.{Known}
 use Rattle.world_model.specs.declared.shape.Shape.{Shape}
 use Rattle.world_model.specs.declared.step.Called.{Called}
 use Rattle.world_model.specs.declared.step.Event.{Event}
@@ -94,14 +96,8 @@ world_by past before call w told_is is = ap (λ (calls : List Called). world not
 pub keeps : (s s' : State) (steps : List Step) (did : Did) → AllStill steps → calls_of s'.past ≡ record { did = did; steps = steps } ∷ calls_of s.past
     → AllowedOn (told_world s.past) (items_of (record { did = did; steps = steps })) → KeepsState s s'
 keeps s s' steps did still told_is allowed = λ opening.
-    subst (λ (calls : List Called). (Run opening (told (calls_of s.past)) → Run opening (told calls)) × ((world opening (told calls)).cells ≡ (world opening (told (calls_of s.past))).cells) × (has_torn calls ≡ has_torn (calls_of s.past))
-    × ((shape : Shape) (first : Layouts) → KeepsLayouts shape opening first (told (calls_of s.past)) (told calls)))
-    (sym told_is) (
-      run_keeps opening (calls_of s.past) steps did still allowed,
-      cells_keep opening (calls_of s.past) steps did still,
-      torn_keeps (calls_of s.past) steps did still,
-      λ shape first. layouts_keep shape opening first (calls_of s.past) steps did still,
-    )
+    subst (λ (calls : List Called). (Run opening (told (calls_of s.past)) → Run opening (told calls)) × ((shape : Shape) (first : Known) → KeepsPlaces shape opening first (told (calls_of s.past)) (told calls)))
+    (sym told_is) (run_keeps opening (calls_of s.past) steps did still allowed, λ shape first. places_keep shape opening first (calls_of s.past) steps did still)
 
 -- where no event waits in the state, none waits in the world
 nothing_shown : (waiting : List Made) (queue : List Event) → AllShow waiting queue → queue ≡ [] → waiting ≡ []
@@ -139,6 +135,7 @@ steps_now s ms moment past sound calm small moment_is told_is =
       running = st.running;
       replies = st.replies;
       answering = st.answering;
+      doubts = st.doubts;
     } in
     let sound' : IsSound s' = record {
       state = subst (λ (v : World). IsStateOf v s') (sym there) state;
@@ -183,6 +180,7 @@ steps_less s steps event requests replies past sound still stays allowed known a
       running = awake;
       replies = known';
       answering = awake';
+      doubts = st.doubts;
     } in
     let fewer = sound.few_requests in
     let fewer' = sound.few_replies in
@@ -321,6 +319,7 @@ steps_sent s node frame past sent sound runs_there more small told_is =
       running = All-push (λ (a : Asked). is_among s.stopped a.node ≡ false) s.requests asked st.running runs;
       replies = st.replies;
       answering = st.answering;
+      doubts = st.doubts;
     } in
     let fewer = sound.few_requests in
     let sound' : IsSound s' = record {
@@ -382,6 +381,7 @@ steps_handed s place stays replied bytes past sound calm within here spelled rea
       running = st.running;
       replies = All-taken (IsGiven w.replies) s.replies place stays st.replies;
       answering = All-taken (λ (r : Replied). is_among s.stopped r.node ≡ false) s.replies place stays st.answering;
+      doubts = st.doubts;
     } in
     let fewer = sound.few_replies in
     let sound' : IsSound s' = record {
@@ -450,24 +450,24 @@ replied_by w send request reply is = go (is_fault reply) refl
     }
 
 -- What a request in flight asks, by its place, and as what it was sent.
-pub record AsksAs (s : State) (place : ℕ) (asked : Asked) (question : Question) (f : Frame) : Type 0 where
+pub record AsksAs (s : State) (place : ℕ) (asked : Asked) (correlation partition : ℕ) (ask : Ask) (f : Frame) : Type 0 where
   pub request : numbered (told_world s.past).sent asked.number ≡ Some (record { from = 0; node = asked.node; frame = Some f })
-  pub called : call_of (Some (record { from = 0; node = asked.node; frame = Some f })) ≡ Some (record { node = asked.node; partition = question.partition; ask = question.ask })
+  pub called : call_of (Some (record { from = 0; node = asked.node; frame = Some f })) ≡ Some (record { node = asked.node; partition = partition; ask = ask })
   pub running : is_among s.stopped asked.node ≡ false
   pub number : slice_index (network_of s).requests place ≡ asked.number
-  pub asked_is : asked_by (network_of s) (slice_index (network_of s).requests place) ≡ Some (record { node = asked.node; partition = question.partition; ask = question.ask })
+  pub asked_is : asked_by (network_of s) (slice_index (network_of s).requests place) ≡ Some (record { node = asked.node; partition = partition; ask = ask })
 
-pub asks_as : (s : State) (place : ℕ) (asked : Asked) (f : Frame) (question : Question) → IsSound s → place < length s.requests → asked ≡ slice_index_or s.requests place asked
-    → frame_in asked.frame ≡ Some f → IsQuestion f question → AsksAs s place asked question f
-asks_as s place asked f question sound within here is_frame asks =
+pub asks_as : (s : State) (place : ℕ) (asked : Asked) (f : Frame) (correlation partition : ℕ) (ask : Ask) → IsSound s → place < length s.requests → asked ≡ slice_index_or s.requests place asked
+    → frame_in asked.frame ≡ Some f → Asks f correlation partition ask → AsksAs s place asked correlation partition ask f
+asks_as s place asked f correlation partition ask sound within here is_frame asks =
     let w : World = told_world s.past in
     let n : Network = network_of s in
     let st = sound.state in
     let sent_is : IsSent w.sent asked = subst (λ a. IsSent w.sent a) (sym here) (st.requests place asked within) in
     let request : Request = record { from = 0; node = asked.node; frame = Some f } in
     let request_is : numbered w.sent asked.number ≡ Some request = sent_is ∙ ap (λ o. Some (record { from = 0; node = asked.node; frame = o })) is_frame in
-    let called : call_of (Some request) ≡ Some (record { node = asked.node; partition = question.partition; ask = question.ask }) =
-    ap (λ o. call_from asked.node f.partition o) asks.ask ∙ ap (λ p. Some (record { node = asked.node; partition = p; ask = question.ask })) (sym asks.partition) in
+    let called : call_of (Some request) ≡ Some (record { node = asked.node; partition = partition; ask = ask }) =
+    ap (λ o. call_from asked.node f.partition o) asks.asks ∙ ap (λ p. Some (record { node = asked.node; partition = p; ask = ask })) (sym asks.of_partition) in
     let number : slice_index n.requests place ≡ asked.number = get_or-map asked_number s.requests place asked 0 within ∙ ap asked_number (sym here) in
     record {
       request = request_is;
@@ -491,41 +491,43 @@ pub record RunsSoundly (s : State) (place : ℕ) (stays : Bool) (s' : State) : T
   pub runs : RunsRequest s (Some place) stays Event.Quiet s'
 
 -- the reply to a question that a request asks
-pub steps_ran : (s : State) (place : ℕ) (stays : Bool) (asked : Asked) (f : Frame) (question : Question) (reply : Reply) (past : Past) (count : ℕ) → IsSound s
-    → place < length s.requests → AsksAs s place asked question f → IsFrame f → IsQuestion f question
-    → MayAnswer (network_of s) (record { node = asked.node; partition = question.partition; ask = question.ask }) reply → AnswersInRange reply
+pub steps_ran : (s : State) (place : ℕ) (stays : Bool) (asked : Asked) (f : Frame) (correlation partition : ℕ) (ask : Ask) (reply : Reply) (past : Past) (count : ℕ) → IsSound s
+    → place < length s.requests → AsksAs s place asked correlation partition ask f → IsFrame f → Asks f correlation partition ask → IsRequested ask
+    → MayAnswer (network_of s) (record { node = asked.node; partition = partition; ask = ask }) reply → AnswersInRange reply
     → count ≡ s.answered + 1 → count < 2 ^ 32
     → calls_of past ≡ record { did = Did.Delivered Event.Quiet; steps = run_step asked.number reply ∷ [] } ∷ calls_of s.past
     → RunsSoundly s place stays (record s {
       requests = taken s.requests place stays;
-      replies = s.replies ++ record { number = s.answered; node = asked.node; frame = record { correlation = question.correlation; partition = question.partition; body = Body.Answer reply } } ∷ [];
+      replies = s.replies ++ record { number = s.answered; node = asked.node; frame = record { correlation = correlation; partition = partition; body = Body.Answer reply } } ∷ [];
       answered = count;
+      doubts = doubts_asked s.doubts asked.node partition (brought_by (id_of ask) (brought ask)) reply;
       past = past;
     })
-steps_ran s place stays asked f question reply past count sound within as_sent is_f asks may range more small told_is =
+steps_ran s place stays asked f correlation partition ask reply past count sound within as_sent is_f asks requested may range more small told_is =
     let w : World = told_world s.past in
     let st = sound.state in
     let n : Network = network_of s in
     let request : Request = record { from = 0; node = asked.node; frame = Some f } in
-    let call : Call = record { node = asked.node; partition = question.partition; ask = question.ask } in
-    let replied : Replied = record { number = s.answered; node = asked.node; frame = record { correlation = question.correlation; partition = question.partition; body = Body.Answer reply } } in
+    let call : Call = record { node = asked.node; partition = partition; ask = ask } in
+    let replied : Replied = record { number = s.answered; node = asked.node; frame = record { correlation = correlation; partition = partition; body = Body.Answer reply } } in
     let answer : Answered = record { request = request; reply = reply } in
+    let doubts : List Doubt = doubts_asked s.doubts asked.node partition (brought_by (id_of ask) (brought ask)) reply in
     let by : HasReply w answer (goes_to w (items_of (record { did = Did.Delivered Event.Quiet; steps = run_step asked.number reply ∷ [] }))) = replied_by w asked.number request reply as_sent.request in
     let w' : World = record w { cells = by.cells; doubts = by.doubts; replies = answer ∷ w.replies } in
-    let s' : State = record s { requests = taken s.requests place stays; replies = s.replies ++ replied ∷ []; answered = count; past = past } in
+    let s' : State = record s { requests = taken s.requests place stays; replies = s.replies ++ replied ∷ []; answered = count; doubts = doubts; past = past } in
     let there : told_world past ≡ w' = world_by past s.past _ _ told_is by.is in
     let spelled : IsFrame replied.frame = record {
       kind = answer_exchanged reply;
-      correlation = subst (λ k. k < 2 ^ 64) (sym asks.correlation) is_f.correlation;
-      partition = subst (λ k. k < 2 ^ 16) (sym asks.partition) is_f.partition;
-      body = answer_spelled n call reply asks.requested may range;
+      correlation = subst (λ k. k < 2 ^ 64) (sym asks.of_correlation) is_f.correlation;
+      partition = subst (λ k. k < 2 ^ 16) (sym asks.of_partition) is_f.partition;
+      body = answer_spelled n call reply requested may range;
       place = tt;
     } in
     let new_given : IsGiven (answer ∷ w.replies) replied = record {
       asked = f;
       reply = reply;
       is = numbered_last answer w.replies s.answered st.answered;
-      frame = ap (λ k. record { correlation = k; partition = question.partition; body = Body.Answer reply }) asks.correlation ∙ ap (λ k. record { correlation = f.correlation; partition = k; body = Body.Answer reply }) asks.partition;
+      frame = ap (λ k. record { correlation = k; partition = partition; body = Body.Answer reply }) asks.of_correlation ∙ ap (λ k. record { correlation = f.correlation; partition = k; body = Body.Answer reply }) asks.of_partition;
       spelled = spelled;
     } in
     let given : All (IsGiven (answer ∷ w.replies)) (s.replies ++ replied ∷ []) =
@@ -543,6 +545,7 @@ steps_ran s place stays asked f question reply past count sound within as_sent i
       running = All-taken (λ (a : Asked). is_among s.stopped a.node ≡ false) s.requests place stays st.running;
       replies = given;
       answering = All-push (λ (r : Replied). is_among s.stopped r.node ≡ false) s.replies replied st.answering as_sent.running;
+      doubts = subst (λ (v : World). AreDoubtsOf v.doubts doubts) by.is (asked_doubts w asked.number call reply s.doubts (ap call_of as_sent.request ∙ as_sent.called) st.doubts);
     } in
     let fewer = sound.few_requests in
     let fewer' = sound.few_replies in

@@ -8,9 +8,11 @@ use Rattle.mem_fabric.specs.declared.flight.Asked.{Asked}
 use Rattle.mem_fabric.specs.declared.flight.Replied.{Replied}
 use Rattle.mem_fabric.specs.declared.past.Past.{Past}
 use Rattle.mem_fabric.specs.Network.{is_stopped, halted, requests_elsewhere, after_stop, after_given, IsOldest}
-use Rattle.mem_fabric.specs.Past.{calls_of, order_steps}
+use Rattle.mem_fabric.specs.Doubts.{doubts_elsewhere}
+use Rattle.mem_fabric.specs.Past.{calls_of, order_steps, restart_did}
 use Rattle.mem_fabric.specs.Sound.{State, told_world, IsSent, IsGiven, is_among, AllShow, IsStateOf, IsSound, network_of, KeepsState, asked_number, replied_number}
 use Rattle.mem_fabric.proofs.Sounds.{length-filtered, world_by, keeps, Steps, asked_elsewhere, replied_elsewhere, requests_left, replies_left}
+use Rattle.mem_fabric.proofs.DoubtLemmas.{elsewhere_doubts}
 use Rattle.mem_fabric.proofs.Worlds.{goes_to, AllowedOn, AllStill, same_cells, after_quiet}
 use Rattle.world_model.specs.declared.order.Order.{Order}
 use Rattle.world_model.specs.declared.order.Told.{Told}
@@ -130,7 +132,7 @@ went s stopped requests replies queue past steps did sound still told_is allowed
 
 -- the same call, by equal parts
 pub ordered_as : {order order' : Order} {answer answer' : Told} {before before' : List Called} → order ≡ order' → answer ≡ answer' → before ≡ before'
-    → record { did = Did.Administered order answer; steps = order_steps order answer } ∷ before ≡ record { did = Did.Administered order' answer'; steps = order_steps order' answer' } ∷ before'
+    → record { did = Did.Administered order answer; steps = order_steps order answer [] } ∷ before ≡ record { did = Did.Administered order' answer'; steps = order_steps order' answer' [] } ∷ before'
 ordered_as e f g = cc
 
 -- ---- an event that waited is given
@@ -152,6 +154,7 @@ given_state w s event rest past st shown =
       running = st.running;
       replies = st.replies;
       answering = st.answering;
+      doubts = st.doubts;
     })
 
 pub record GivesOldest (s s' : State) (event : Event) : Type 0 where
@@ -192,6 +195,7 @@ stopped_state w s node past st = record {
   running = still_running (λ (asked : Asked). asked.node) s.stopped node s.requests st.running;
   replies = All-filter (replied_elsewhere node) (IsGiven w.replies) s.replies st.replies;
   answering = still_running (λ (replied : Replied). replied.node) s.stopped node s.replies st.answering;
+  doubts = st.doubts;
 }
 
 -- a state after a node was stopped by an order
@@ -249,9 +253,14 @@ steps_halted s node past sound calm told_is =
 
 -- ---- a node runs again
 
-restarted_state : (w : World) (s : State) (node : ℕ) (past : Past) → IsStateOf w s
-    → IsStateOf (after w (Took (Step.Restart node []))) (record s { stopped = filter (λ other. not (other == node)) s.stopped; past = past })
-restarted_state w s node past st = record {
+-- by an order it is told and done, and by a move nothing comes of it
+restarted_world : (w : World) (ordered : Bool) (node : ℕ) (done : List ℕ) → goes_to w (items_of (record { did = restart_did ordered node; steps = Step.Restart node done ∷ [] })) ≡ after w (Took (Step.Restart node done))
+restarted_world w true node done = refl
+restarted_world w false node done = after_quiet (after w (Took (Step.Restart node done)))
+
+restarted_state : (w : World) (s : State) (node : ℕ) (done : List ℕ) (past : Past) → IsStateOf w s
+    → IsStateOf (after w (Took (Step.Restart node done))) (record s { stopped = filter (λ other. not (other == node)) s.stopped; doubts = doubts_elsewhere node s.doubts; past = past })
+restarted_state w s node done past st = record {
   stopped = λ n. ap (λ b. not (n == node) && b) (st.stopped n) ∙ sym (among_less s.stopped node n);
   waits = st.waits;
   clock = st.clock;
@@ -261,20 +270,26 @@ restarted_state w s node past st = record {
   running = running_on (λ (asked : Asked). asked.node) s.stopped node s.requests st.running;
   replies = st.replies;
   answering = running_on (λ (replied : Replied). replied.node) s.stopped node s.replies st.answering;
+  doubts = elsewhere_doubts w.doubts s.doubts node st.doubts;
 }
 
-pub steps_restarted : (s : State) (node : ℕ) (past : Past) → IsSound s → is_stopped (network_of s) node ≡ true
-    → calls_of past ≡ record { did = Did.Administered (Order.Restart node) Told.Done; steps = Step.Restart node [] ∷ [] } ∷ calls_of s.past
-    → Went s (record s { stopped = filter (λ other. not (other == node)) s.stopped; past = past })
-steps_restarted s node past sound stopped told_is =
-    went s (filter (λ other. not (other == node)) s.stopped) s.requests s.replies s.queue past (Step.Restart node [] ∷ []) (Did.Administered (Order.Restart node) Told.Done) sound (tt, refl) told_is (tt, stopped)
-    (restarted_state (told_world s.past) s node past sound.state) (omega arith) (omega arith) sound.few_events
+pub steps_restarted : (s : State) (node : ℕ) (ordered : Bool) (done : List ℕ) (past : Past) → IsSound s
+    → calls_of past ≡ record { did = restart_did ordered node; steps = Step.Restart node done ∷ [] } ∷ calls_of s.past
+    → IsSound (record s { stopped = filter (λ other. not (other == node)) s.stopped; doubts = doubts_elsewhere node s.doubts; past = past })
+steps_restarted s node ordered done past sound told_is =
+    let s' : State = record s { stopped = filter (λ other. not (other == node)) s.stopped; doubts = doubts_elsewhere node s.doubts; past = past } in
+    let there : told_world past ≡ after (told_world s.past) (Took (Step.Restart node done)) = world_by past s.past _ _ told_is (restarted_world (told_world s.past) ordered node done) in
+    record {
+      state = subst (λ (v : World). IsStateOf v s') (sym there) (restarted_state (told_world s.past) s node done past sound.state);
+      few_requests = sound.few_requests;
+      few_replies = sound.few_replies;
+      few_events = sound.few_events;
+      small_sent = sound.small_sent;
+      small_answered = sound.small_answered;
+      shape = sound.shape;
+    }
 
-pub steps_resumed : (s : State) (node : ℕ) (past : Past) → IsSound s → is_stopped (network_of s) node ≡ true
-    → calls_of past ≡ record { did = Did.Delivered Event.Quiet; steps = Step.Restart node [] ∷ [] } ∷ calls_of s.past
-    → Went s (record s { stopped = filter (λ other. not (other == node)) s.stopped; past = past })
-steps_resumed s node past sound stopped told_is =
-    let w : World = told_world s.past in
-    let s' : State = record s { stopped = filter (λ other. not (other == node)) s.stopped; past = past } in
-    went s (filter (λ other. not (other == node)) s.stopped) s.requests s.replies s.queue past (Step.Restart node [] ∷ []) (Did.Delivered Event.Quiet) sound (tt, refl) told_is ((tt, stopped), tt)
-    (subst (λ (v : World). IsStateOf v s') (sym (after_quiet (after w (Took (Step.Restart node []))))) (restarted_state w s node past sound.state)) (omega arith) (omega arith) sound.few_events
+-- the same call, by equal parts
+pub restarted_as : {ordered ordered' : Bool} {node node' : ℕ} {done done' : List ℕ} {before before' : List Called} → ordered ≡ ordered' → node ≡ node' → done ≡ done' → before ≡ before'
+    → record { did = restart_did ordered node; steps = Step.Restart node done ∷ [] } ∷ before ≡ record { did = restart_did ordered' node'; steps = Step.Restart node' done' ∷ [] } ∷ before'
+restarted_as e f g h = cc

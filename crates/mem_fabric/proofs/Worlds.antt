@@ -5,12 +5,11 @@ use Rattle.blob_id.specs.declared.id.BlobId.{BlobId}
 use Rattle.cell_model.specs.declared.cell.Cell.{Cell}
 use Rattle.cell_model.specs.declared.cell.Cell.TheVariants.{Absent, Held, Gone}
 use Rattle.cell_model.specs.Cells.{join}
-use Rattle.lab_nodes.specs.Holding.{settings_of}
-use Rattle.lab_nodes.specs.Layouts.{Layouts}
 use Rattle.log_manifest.specs.declared.manifest.LogSettings.{LogSettings}
-use Rattle.mem_fabric.specs.Packing.{IsItemPacked, item_layouts, layouts_after}
-use Rattle.mem_fabric.specs.Sound.{KeepsLayouts}
-use Rattle.mem_fabric.specs.Torn.{is_torn, has_torn}
+use Rattle.mem_fabric.specs.Sound.{KeepsPlaces}
+use Rattle.node_lab.specs.Places.{Places}
+use Rattle.node_lab.specs.Replicas.{settings_of}
+use Rattle.node_lab.specs.RunPlaces.{AllPacked, IsItemPacked, Known, item_layouts, layouts_after, places_after}
 use Rattle.world_model.specs.declared.shape.Shape.{Shape}
 use Rattle.world_model.specs.declared.step.Called.{Called}
 use Rattle.world_model.specs.declared.step.Did.{Did}
@@ -128,8 +127,7 @@ goes_apart w c (item ∷ before) =
 abbrev pub is_still : Step → Bool
 is_still (Step.Exec send reply) = false
 is_still (Step.Torn send) = false
-is_still (Step.Restart node []) = true
-is_still (Step.Restart node (p ∷ done)) = false
+is_still (Step.Restart node done) = false
 is_still (Step.Merge node partition reply place torn) = false
 is_still _ = true
 
@@ -146,12 +144,7 @@ step_cells w (Step.Hand reply) still = same_cells w.cells
 step_cells w (Step.Now ms) still = same_cells w.cells
 step_cells w (Step.Cut node) still = same_cells w.cells
 step_cells w (Step.Stop node) still = same_cells w.cells
-step_cells w (Step.Restart node []) still = λ i n p id. same_cell (n == node) (w.cells n p id) (arriving_change (w.doubts n p) id) i
-  where
-    same_cell : (b : Bool) (c other : Cell) → join c (cond (b && false) other Absent) ≡ c
-    same_cell true c other = join_absent c
-    same_cell false c other = join_absent c
-step_cells w (Step.Restart node (p ∷ done)) still = absurd cc
+step_cells w (Step.Restart node done) still = absurd cc
 step_cells w (Step.Merge node partition reply place torn) still = absurd cc
 step_cells w (Step.Compact node partition reply) still = same_cells w.cells
 
@@ -172,7 +165,7 @@ step_allowed w c (Step.Hand reply) still a = a
 step_allowed w c (Step.Now ms) still a = a
 step_allowed w c (Step.Cut node) still a = a
 step_allowed w c (Step.Stop node) still a = a
-step_allowed w c (Step.Restart node done) still a = a
+step_allowed w c (Step.Restart node done) still a = absurd cc
 step_allowed w c (Step.Merge node partition reply place torn) still a = absurd cc
 step_allowed w c (Step.Compact node partition reply) still a = a
 
@@ -198,22 +191,26 @@ call_allowed w c steps (Did.Delivered event) still a = (
 )
 call_allowed w c steps _ still a = steps_allowed w c steps still a
 
-calm_step : (step : Step) → is_still step ≡ true → is_torn step ≡ false
-calm_step (Step.Send from node frame) still = refl
-calm_step (Step.Refused node frame) still = refl
-calm_step (Step.Exec send reply) still = refl
-calm_step (Step.Torn send) still = absurd cc
-calm_step (Step.Hand reply) still = refl
-calm_step (Step.Now ms) still = refl
-calm_step (Step.Cut node) still = refl
-calm_step (Step.Stop node) still = refl
-calm_step (Step.Restart node done) still = refl
-calm_step (Step.Merge node partition reply place torn) still = absurd cc
-calm_step (Step.Compact node partition reply) still = refl
+step_doubts : (w : World) (step : Step) → is_still step ≡ true → (after w (Took step)).doubts ≡ w.doubts
+step_doubts w (Step.Send from node frame) still = refl
+step_doubts w (Step.Refused node frame) still = refl
+step_doubts w (Step.Exec send reply) still = absurd cc
+step_doubts w (Step.Torn send) still = absurd cc
+step_doubts w (Step.Hand reply) still = refl
+step_doubts w (Step.Now ms) still = refl
+step_doubts w (Step.Cut node) still = refl
+step_doubts w (Step.Stop node) still = refl
+step_doubts w (Step.Restart node done) still = absurd cc
+step_doubts w (Step.Merge node partition reply place torn) still = absurd cc
+step_doubts w (Step.Compact node partition reply) still = refl
 
-calm_steps : (steps : List Step) → AllStill steps → list_any is_torn steps ≡ false
-calm_steps [] still = refl
-calm_steps (step ∷ steps) still = rw (calm_step step still.1, calm_steps steps still.0) refl
+steps_doubts : (w : World) (steps : List Step) → AllStill steps → (goes_to w (map Took steps)).doubts ≡ w.doubts
+steps_doubts w [] still = refl
+steps_doubts w (step ∷ steps) still = step_doubts (goes_to w (map Took steps)) step still.1 ∙ steps_doubts w steps still.0
+
+call_doubts : (w : World) (steps : List Step) (did : Did) → AllStill steps → (goes_to w (items_of (record { did = did; steps = steps }))).doubts ≡ w.doubts
+call_doubts w steps (Did.Delivered event) still = steps_doubts w steps still
+call_doubts w steps _ still = steps_doubts w steps still
 
 -- ---- runs
 
@@ -225,93 +222,79 @@ run_keeps opening calls steps did still allowed run =
     run_on opening (items_of (record { did = did; steps = steps })) (told calls) run
     (subst (λ (v : World). AllowedOn v (items_of (record { did = did; steps = steps }))) (sym (apart opening nothing_held (told calls))) (call_allowed w (world opening (told calls)).cells steps did still allowed))
 
-pub cells_keep : (opening : Cells) (calls : List Called) (steps : List Step) (did : Did) → AllStill steps → (world opening (told (record { did = did; steps = steps } ∷ calls))).cells ≡ (world opening (told calls)).cells
+cells_keep : (opening : Cells) (calls : List Called) (steps : List Step) (did : Did) → AllStill steps → (world opening (told (record { did = did; steps = steps } ∷ calls))).cells ≡ (world opening (told calls)).cells
 cells_keep opening calls steps did still =
     ap (λ (v : World). v.cells) (world_on opening (items_of (record { did = did; steps = steps })) (told calls)) ∙ call_cells (world opening (told calls)) steps did still
 
-pub torn_keeps : (calls : List Called) (steps : List Step) (did : Did) → AllStill steps → has_torn (record { did = did; steps = steps } ∷ calls) ≡ has_torn calls
-torn_keeps calls steps did still = ap (λ (b : Bool). b || has_torn calls) (calm_steps steps still)
+doubts_keep : (opening : Cells) (calls : List Called) (steps : List Step) (did : Did) → AllStill steps → (world opening (told (record { did = did; steps = steps } ∷ calls))).doubts ≡ (world opening (told calls)).doubts
+doubts_keep opening calls steps did still =
+    ap (λ (v : World). v.doubts) (world_on opening (items_of (record { did = did; steps = steps })) (told calls)) ∙ call_doubts (world opening (told calls)) steps did still
 
--- ---- how records are packed
+-- ---- what replicas have
 
-step_packed : (shape : Shape) (w : World) (layouts : Layouts) (step : Step) → is_still step ≡ true → IsItemPacked shape w layouts (Took step)
-step_packed shape w layouts (Step.Send from node frame) still = tt
-step_packed shape w layouts (Step.Refused node frame) still = tt
-step_packed shape w layouts (Step.Exec send reply) still = absurd cc
-step_packed shape w layouts (Step.Torn send) still = absurd cc
-step_packed shape w layouts (Step.Hand reply) still = tt
-step_packed shape w layouts (Step.Now ms) still = tt
-step_packed shape w layouts (Step.Cut node) still = tt
-step_packed shape w layouts (Step.Stop node) still = tt
-step_packed shape w layouts (Step.Restart node done) still = tt
-step_packed shape w layouts (Step.Merge node partition reply place torn) still = absurd cc
-step_packed shape w layouts (Step.Compact node partition reply) still = tt
+step_packed : (shape : Shape) (w : World) (places : Places) (step : Step) → is_still step ≡ true → IsItemPacked shape w places (Took step)
+step_packed shape w places (Step.Send from node frame) still = tt
+step_packed shape w places (Step.Refused node frame) still = tt
+step_packed shape w places (Step.Exec send reply) still = absurd cc
+step_packed shape w places (Step.Torn send) still = tt
+step_packed shape w places (Step.Hand reply) still = tt
+step_packed shape w places (Step.Now ms) still = tt
+step_packed shape w places (Step.Cut node) still = tt
+step_packed shape w places (Step.Stop node) still = tt
+step_packed shape w places (Step.Restart node done) still = tt
+step_packed shape w places (Step.Merge node partition reply place torn) still = tt
+step_packed shape w places (Step.Compact node partition reply) still = tt
 
-step_layouts : (settings : LogSettings) (w : World) (layouts : Layouts) (step : Step) → is_still step ≡ true → item_layouts settings w layouts (Took step) ≡ layouts
-step_layouts settings w layouts (Step.Send from node frame) still = refl
-step_layouts settings w layouts (Step.Refused node frame) still = refl
-step_layouts settings w layouts (Step.Exec send reply) still = absurd cc
-step_layouts settings w layouts (Step.Torn send) still = absurd cc
-step_layouts settings w layouts (Step.Hand reply) still = refl
-step_layouts settings w layouts (Step.Now ms) still = refl
-step_layouts settings w layouts (Step.Cut node) still = refl
-step_layouts settings w layouts (Step.Stop node) still = refl
-step_layouts settings w layouts (Step.Restart node done) still = refl
-step_layouts settings w layouts (Step.Merge node partition reply place torn) still = absurd cc
-step_layouts settings w layouts (Step.Compact node partition reply) still = refl
+step_layouts : (settings : LogSettings) (w : World) (known : Known) (step : Step) → is_still step ≡ true → item_layouts settings w known (Took step) ≡ known
+step_layouts settings w known (Step.Send from node frame) still = refl
+step_layouts settings w known (Step.Refused node frame) still = refl
+step_layouts settings w known (Step.Exec send reply) still = absurd cc
+step_layouts settings w known (Step.Torn send) still = absurd cc
+step_layouts settings w known (Step.Hand reply) still = refl
+step_layouts settings w known (Step.Now ms) still = refl
+step_layouts settings w known (Step.Cut node) still = refl
+step_layouts settings w known (Step.Stop node) still = refl
+step_layouts settings w known (Step.Restart node done) still = refl
+step_layouts settings w known (Step.Merge node partition reply place torn) still = absurd cc
+step_layouts settings w known (Step.Compact node partition reply) still = refl
 
-steps_layouts : (shape : Shape) (opening : Cells) (first : Layouts) (steps : List Step) (before : Record) → AllStill steps → KeepsLayouts shape opening first before (map Took steps ++ before)
+-- what was packed is, and the layouts stay
+abbrev KeepsLayouts : Shape → Cells → Known → (old new : Record) → Type 0
+KeepsLayouts shape opening first old new =
+    (AllPacked shape opening first old → AllPacked shape opening first new)
+    × (layouts_after (settings_of shape) opening first new ≡ layouts_after (settings_of shape) opening first old)
+
+steps_layouts : (shape : Shape) (opening : Cells) (first : Known) (steps : List Step) (before : Record) → AllStill steps → KeepsLayouts shape opening first before (map Took steps ++ before)
 steps_layouts shape opening first [] before still = ((λ p. p), refl)
 steps_layouts shape opening first (step ∷ steps) before still =
     let keeps : KeepsLayouts shape opening first before (map Took steps ++ before) = steps_layouts shape opening first steps before still.0 in
     let w : World = world opening (map Took steps ++ before) in
-    let layouts : Layouts = layouts_after (settings_of shape) opening first (map Took steps ++ before) in
-    ((λ p. (keeps.0 p, step_packed shape w layouts step still.1)), step_layouts (settings_of shape) w layouts step still.1 ∙ keeps.1)
+    let known : Known = layouts_after (settings_of shape) opening first (map Took steps ++ before) in
+    ((λ p. (keeps.0 p, step_packed shape w (places_after (settings_of shape) opening first (map Took steps ++ before)) step still.1)), step_layouts (settings_of shape) w known step still.1 ∙ keeps.1)
 
--- a call of such steps leaves how records are packed
-pub layouts_keep : (shape : Shape) (opening : Cells) (first : Layouts) (calls : List Called) (steps : List Step) (did : Did) → AllStill steps → KeepsLayouts shape opening first (told calls) (told (record { did = did; steps = steps } ∷ calls))
+layouts_keep : (shape : Shape) (opening : Cells) (first : Known) (calls : List Called) (steps : List Step) (did : Did) → AllStill steps → KeepsLayouts shape opening first (told calls) (told (record { did = did; steps = steps } ∷ calls))
 layouts_keep shape opening first calls steps (Did.Delivered event) still =
     let keeps : KeepsLayouts shape opening first (told calls) (map Took steps ++ told calls) = steps_layouts shape opening first steps (told calls) still in
     ((λ p. (keeps.0 p, tt)), keeps.1)
 layouts_keep shape opening first calls steps _ still = steps_layouts shape opening first steps (told calls) still
 
--- ---- doubts
+-- replicas that have these
+abbrev place_all : Cells → (ℕ → ℕ → Option Change) → Known → Places
+place_all cells doubts known = λ n p. record { cells = cells n p; doubt = doubts n p; layout = known n p }
 
-sure_step : (w : World) (step : Step) → ((n p : ℕ) → w.doubts n p ≡ None) → is_torn step ≡ false → (n p : ℕ) → (after w (Took step)).doubts n p ≡ None
-sure_step w (Step.Send from node frame) sure calm n p = sure n p
-sure_step w (Step.Refused node frame) sure calm n p = sure n p
-sure_step w (Step.Exec send reply) sure calm n p = sure n p
-sure_step w (Step.Torn send) sure calm n p = absurd cc
-sure_step w (Step.Hand reply) sure calm n p = sure n p
-sure_step w (Step.Now ms) sure calm n p = sure n p
-sure_step w (Step.Cut node) sure calm n p = sure n p
-sure_step w (Step.Stop node) sure calm n p = sure n p
-sure_step w (Step.Restart node done) sure calm n p = none (n == node) (w.doubts n p) (sure n p)
-  where
-    none : (b : Bool) (doubt : Option Change) → doubt ≡ None → cond b None doubt ≡ None
-    none true doubt e = refl
-    none false doubt e = e
-sure_step w (Step.Merge node partition reply place true) sure calm n p = absurd cc
-sure_step w (Step.Merge node partition reply place false) sure calm n p = sure n p
-sure_step w (Step.Compact node partition reply) sure calm n p = sure n p
+-- a call of such steps leaves what replicas have
+pub places_keep : (shape : Shape) (opening : Cells) (first : Known) (calls : List Called) (steps : List Step) (did : Did) → AllStill steps → KeepsPlaces shape opening first (told calls) (told (record { did = did; steps = steps } ∷ calls))
+places_keep shape opening first calls steps did still =
+    let w : World = world opening (told calls) in
+    let v : World = world opening (told (record { did = did; steps = steps } ∷ calls)) in
+    let known : Known = layouts_after (settings_of shape) opening first (told (record { did = did; steps = steps } ∷ calls)) in
+    let keeps = layouts_keep shape opening first calls steps did still in (
+      keeps.0,
+      ap (λ c. place_all c v.doubts known) (cells_keep opening calls steps did still)
+          ∙ ap (λ d. place_all w.cells d known) (doubts_keep opening calls steps did still)
+          ∙ ap (λ k. place_all w.cells w.doubts k) keeps.1,
+    )
 
-neither : (a b : Bool) → (a || b) ≡ false → (a ≡ false) × (b ≡ false)
-neither true b e = absurd cc
-neither false b e = (refl, e)
-
-sure_steps : (w : World) (steps : List Step) → ((n p : ℕ) → w.doubts n p ≡ None) → list_any is_torn steps ≡ false → (n p : ℕ) → (goes_to w (map Took steps)).doubts n p ≡ None
-sure_steps w [] sure calm = sure
-sure_steps w (step ∷ steps) sure calm =
-    let both = neither (is_torn step) (list_any is_torn steps) calm in
-    sure_step (goes_to w (map Took steps)) step (sure_steps w steps sure both.1) both.0
-
-sure_call : (w : World) (steps : List Step) (did : Did) → ((n p : ℕ) → w.doubts n p ≡ None) → list_any is_torn steps ≡ false → (n p : ℕ) → (goes_to w (items_of (record { did = did; steps = steps }))).doubts n p ≡ None
-sure_call w steps (Did.Delivered event) sure calm = sure_steps w steps sure calm
-sure_call w steps _ sure calm = sure_steps w steps sure calm
-
--- nothing is in doubt behind calls that leave nothing so
-pub none_in_doubt : (opening : Cells) (calls : List Called) → has_torn calls ≡ false → (n p : ℕ) → (world opening (told calls)).doubts n p ≡ None
-none_in_doubt opening [] calm n p = refl
-none_in_doubt opening (call ∷ calls) calm n p =
-    let both = neither (list_any is_torn call.steps) (has_torn calls) calm in
-    ap (λ (v : World). v.doubts n p) (world_on opening (items_of call) (told calls)) ∙ sure_call (world opening (told calls)) call.steps call.did (none_in_doubt opening calls both.1) both.0 n p
+-- worlds that differ in what was held have the same in doubt, and the same nodes stopped
+pub same_in_doubt : (a b : Cells) (items : Record) (n p : ℕ) → (world a items).doubts n p ≡ (world b items).doubts n p
+same_in_doubt a b items n p = ap (λ (w : World). w.doubts n p) (apart a b items)

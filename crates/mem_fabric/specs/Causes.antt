@@ -29,9 +29,9 @@ module _ {B D : Type 0} (bays_tell tells : Type 0) (content : D → Content) (si
   abbrev pub RestartRefused : ℕ → NodesState B D → Refusal → Type 0
   RestartRefused node old refusal = bays_tell → (shape : Shape) → old.shape ≡ Some shape → IsFirst tells content size (is_of_node shape node) (settings_of shape) (home old.bays old.folder) refusal
 
--- Whether disks tell, and how often they failed.
-module _ {B D : Type 0} (tells : Type 0) (faults : D → ℕ) where
+-- Whether disks tell, what they tell, how large they are, and how often they failed.
+module _ {B D : Type 0} (tells : Type 0) (content : D → Content) (size faults : D → ℕ) where
   -- Where one more call tells that a device failed in a request, it is that of the replica which was asked, and it failed in this very call.
   abbrev pub FailsByItself : State → NodesState B D → State → NodesState B D → Type 0
   FailsByItself old nodes new nodes' = (send : ℕ) → calls_of new.past ≡ record { did = Did.Delivered Event.Quiet; steps = Step.Torn send ∷ [] } ∷ calls_of old.past → tells
-      → (call : Call) × (call_at (told_world old.past) send ≡ Some call) × FailedIn faults (replica_at nodes call.node call.partition) (replica_at nodes' call.node call.partition)
+      → (call : Call) × (call_at (told_world old.past) send ≡ Some call) × FailedIn tells content size faults (replica_at nodes call.node call.partition) (replica_at nodes' call.node call.partition)

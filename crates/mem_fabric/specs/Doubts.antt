@@ -12,7 +12,7 @@ use Rattle.mem_fabric.specs.declared.doubts.Doubt.{Doubt}
 use Rattle.node_lab.specs.Nodes.{NodesState, replica_at}
 use Rattle.node_lab.specs.Places.{is_fault}
 use Rattle.replica_core.specs.State.{ReplicaState}
-use Rattle.world_model.specs.World.{Change, World}
+use Rattle.world_model.specs.World.{Change}
 
 -- what a cell that is brought to an id comes to
 abbrev pub brought_by : BlobId → Cell → Brought
@@ -25,16 +25,16 @@ brought_in change = brought_by change.id change.cell
 
 -- whether what is in doubt is so at this replica
 abbrev pub is_doubt_at : ℕ → ℕ → Doubt → Bool
-is_doubt_at n p doubt = (n == doubt.node) && (p == doubt.partition)
+is_doubt_at n p doubt = (doubt.node == n) && (doubt.partition == p)
 
 -- whether it is so on this node
 abbrev pub is_doubt_on : ℕ → Doubt → Bool
 is_doubt_on node doubt = doubt.node == node
 
--- The doubts of a world are these, at most one for each replica.
-pub record AreDoubtsOf (w : World) (doubts : List Doubt) : Type 0 where
-  pub each : All (λ doubt. option_map brought_in (w.doubts doubt.node doubt.partition) ≡ Some doubt.brought) doubts
-  pub all : (n p : ℕ) → list_any (is_doubt_at n p) doubts ≡ is_some (w.doubts n p)
+-- What replicas have in doubt is what is kept here, without its bytes.
+pub record AreDoubtsOf (held : ℕ → ℕ → Option Change) (doubts : List Doubt) : Type 0 where
+  pub each : All (λ doubt. option_map brought_in (held doubt.node doubt.partition) ≡ Some doubt.brought) doubts
+  pub all : (n p : ℕ) → list_any (is_doubt_at n p) doubts ≡ is_some (held n p)
 
 -- what is in doubt behind an ask of a replica: where its device failed, what the ask brought
 abbrev pub doubts_asked : List Doubt → (node partition : ℕ) → Brought → Reply → List Doubt

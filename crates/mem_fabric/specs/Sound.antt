@@ -81,7 +81,7 @@ pub record IsStateOf (w : World) (s : State) : Type 0 where
   pub running : All (λ asked. is_among s.stopped asked.node ≡ false) s.requests
   pub replies : All (IsGiven w.replies) s.replies
   pub answering : All (λ replied. is_among s.stopped replied.node ≡ false) s.replies
-  pub doubts : AreDoubtsOf w s.doubts
+  pub doubts : AreDoubtsOf w.doubts s.doubts
 
 -- what holds at any time
 pub record IsSound (s : State) : Type 0 where

@@ -189,7 +189,7 @@ impl Cluster {
         ensures err { OnErr result (self.new ≡ self.old) }
         ensures goes { GoesOn B.tells B.Disk.tells B.Disk.content B.home B.out B.same self.old nodes.old self.new nodes.new }
         // A request is answered Fault only where the disk of its own replica failed in this very call.
-        ensures fault { FailsByItself B.Disk.tells B.Disk.faults self.old nodes.old self.new nodes.new }
+        ensures fault { FailsByItself B.Disk.tells B.Disk.content B.Disk.size B.Disk.faults self.old nodes.old self.new nodes.new }
     {
         let requests = self.requests();
         let replies = self.replies();

@@ -390,7 +390,9 @@ impl Cluster {
         nodes: &mut LabNodes<B>,
         place: usize,
         stays: bool,
-        (correlation, partition, ask): (u64, u16, Ask),
+        correlation: u64,
+        partition: u16,
+        ask: Ask,
     ) -> Result<Event, Memory>
     where
         B::Disk: Drop,
@@ -403,7 +405,7 @@ impl Cluster {
         ensures made { IfOk result (λ event. RunsRequest self.old (Some place) stays event self.new) }
         ensures err { OnErr result (self.new ≡ self.old) }
         ensures goes { GoesOn B.tells B.Disk.tells B.Disk.content B.home B.out B.same self.old nodes.old self.new nodes.new }
-        ensures fault { FailsByItself B.Disk.tells B.Disk.faults self.old nodes.old self.new nodes.new }
+        ensures fault { FailsByItself B.Disk.tells B.Disk.content B.Disk.size B.Disk.faults self.old nodes.old self.new nodes.new }
     {
         let Some(answered) = self.answered.checked_add(1) else {
             return Err(Memory);
@@ -457,10 +459,12 @@ impl Cluster {
         ensures made { IfOk result (λ event. RunsRequest self.old (Some place) stays event self.new) }
         ensures err { OnErr result (self.new ≡ self.old) }
         ensures goes { GoesOn B.tells B.Disk.tells B.Disk.content B.home B.out B.same self.old nodes.old self.new nodes.new }
-        ensures fault { FailsByItself B.Disk.tells B.Disk.faults self.old nodes.old self.new nodes.new }
+        ensures fault { FailsByItself B.Disk.tells B.Disk.content B.Disk.size B.Disk.faults self.old nodes.old self.new nodes.new }
     {
         match read_request(self.alloc, self.requests[place].frame.as_slice())? {
-            Some(asked) => self.answer(nodes, place, stays, asked),
+            Some((correlation, partition, ask)) => {
+                self.answer(nodes, place, stays, correlation, partition, ask)
+            }
             None => Ok(self.leave_request(place, stays)),
         }
     }
@@ -481,7 +485,7 @@ impl Cluster {
         ensures made { IfOk result (λ event. RunsRequest self.old place stays event self.new) }
         ensures err { OnErr result (self.new ≡ self.old) }
         ensures goes { GoesOn B.tells B.Disk.tells B.Disk.content B.home B.out B.same self.old nodes.old self.new nodes.new }
-        ensures fault { FailsByItself B.Disk.tells B.Disk.faults self.old nodes.old self.new nodes.new }
+        ensures fault { FailsByItself B.Disk.tells B.Disk.content B.Disk.size B.Disk.faults self.old nodes.old self.new nodes.new }
     {
         match place {
             Some(place) => self.run(nodes, place, stays),

@@ -74,7 +74,7 @@ pub fn note_doubt(
 fn drop_doubt(doubts: &mut Vec<Doubt>, node: u32, partition: u16)
     ensures items { doubts.new.items ≡ filter (λ doubt. not (is_doubt_at node partition doubt)) doubts.old.items }
 {
-    doubts.retain(|doubt| !(node == doubt.node && partition == doubt.partition));
+    doubts.retain(|doubt| !(doubt.node == node && doubt.partition == partition));
 }
 
 /// Whether the replica of a node and a partition shows what was brought.

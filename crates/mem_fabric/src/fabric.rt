@@ -107,7 +107,7 @@ where
         ensures net { Advances ⟦<Self as Fabric>⟧.faults ⟦<Self as Fabric>⟧.opened ⟦<Self as Fabric>⟧.runs ⟦<Self as Fabric>⟧.advances self.old self.new (is_ok result) }
         ensures most { OnErr result (AtMostOne (M.given self.old.moves) (M.given self.new.moves)) }
         ensures count { self.new.faults ≡ self.old.faults }
-        ensures fault { FailsByItself B.Disk.tells B.Disk.faults self.old.cluster self.old.nodes self.new.cluster self.new.nodes }
+        ensures fault { FailsByItself B.Disk.tells B.Disk.content B.Disk.size B.Disk.faults self.old.cluster self.old.nodes self.new.cluster self.new.nodes }
     {
         let shape = self.cluster.shape().unwrap();
         self.moves.ready()?;
@@ -216,7 +216,7 @@ where
         ensures most { OnErr result (AtMostOne (M.given self.old.moves) (M.given self.new.moves)) }
         ensures count { self.new.faults ≡ self.old.faults }
         // A request is answered Fault only where the disk of its own replica failed in this very call.
-        ensures fault { FailsByItself B.Disk.tells B.Disk.faults self.old.cluster self.old.nodes self.new.cluster self.new.nodes }
+        ensures fault { FailsByItself B.Disk.tells B.Disk.content B.Disk.size B.Disk.faults self.old.cluster self.old.nodes self.new.cluster self.new.nodes }
     {
         if self.cluster.queued() == 0 {
             self.move_on()

@@ -29,6 +29,7 @@ invariant_of-self-2 g c =
       sent = c.self.inside.sent;
       answered = c.self.inside.answered;
       clock = c.self.inside.clock;
+      doubts = c.self.inside.doubts.items;
       past = c.self.inside.past;
     } in
     let asked : Asked = c.index-request.result.now in
@@ -74,6 +75,7 @@ returns-clause-made g c =
       sent = c.self.inside.sent;
       answered = c.self.inside.answered;
       clock = c.self.inside.clock;
+      doubts = c.self.inside.doubts.items;
       past = c.self.inside.past;
     } in
     let asked : Asked = c.index-request.result.now in
@@ -119,6 +121,7 @@ returns-clause-goes g c =
       sent = c.self.inside.sent;
       answered = c.self.inside.answered;
       clock = c.self.inside.clock;
+      doubts = c.self.inside.doubts.items;
       past = c.self.inside.past;
     } in
     let asked : Asked = c.index-request.result.now in

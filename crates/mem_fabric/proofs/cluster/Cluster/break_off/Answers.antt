@@ -24,6 +24,7 @@ invariant_of-self c =
       sent = c.self.inside.sent;
       answered = c.self.inside.answered;
       clock = c.self.inside.clock;
+      doubts = c.self.inside.doubts.items;
       past = c.self.inside.past;
     } in
     let past : Past = views.Cut c.of.result c.of-2.result in
@@ -47,6 +48,7 @@ returns-clause-network c =
       sent = c.self.inside.sent;
       answered = c.self.inside.answered;
       clock = c.self.inside.clock;
+      doubts = c.self.inside.doubts.items;
       past = c.self.inside.past;
     } in
     let past : Past = views.Cut c.of.result c.of-2.result in
@@ -70,6 +72,7 @@ returns-clause-run c =
       sent = c.self.inside.sent;
       answered = c.self.inside.answered;
       clock = c.self.inside.clock;
+      doubts = c.self.inside.doubts.items;
       past = c.self.inside.past;
     } in
     let past : Past = views.Cut c.of.result c.of-2.result in

@@ -19,6 +19,7 @@ invariant_of-self c =
       sent = c.self.inside.sent;
       answered = c.self.inside.answered;
       clock = c.self.inside.clock;
+      doubts = c.self.inside.doubts.items;
       past = c.self.inside.past;
     } in
     let event : Event = c.remove-event.result in
@@ -42,6 +43,7 @@ returns-clause-run c =
       sent = c.self.inside.sent;
       answered = c.self.inside.answered;
       clock = c.self.inside.clock;
+      doubts = c.self.inside.doubts.items;
       past = c.self.inside.past;
     } in
     let event : Event = c.remove-event.result in

@@ -25,6 +25,7 @@ invariant_of-self-2 c =
       sent = c.self.inside.sent;
       answered = c.self.inside.answered;
       clock = c.self.inside.clock;
+      doubts = c.self.inside.doubts.items;
       past = c.self.inside.past;
     } in
     let past : Past = views.Stopped c.of.result c.of-2.result in
@@ -52,6 +53,7 @@ returns-clause-network c =
       sent = c.self.inside.sent;
       answered = c.self.inside.answered;
       clock = c.self.inside.clock;
+      doubts = c.self.inside.doubts.items;
       past = c.self.inside.past;
     } in
     let past : Past = views.Stopped c.of.result c.of-2.result in
@@ -79,6 +81,7 @@ returns-clause-run c =
       sent = c.self.inside.sent;
       answered = c.self.inside.answered;
       clock = c.self.inside.clock;
+      doubts = c.self.inside.doubts.items;
       past = c.self.inside.past;
     } in
     let past : Past = views.Stopped c.of.result c.of-2.result in

@@ -22,6 +22,7 @@ invariant_of-self c =
       sent = c.self.inside.sent;
       answered = c.self.inside.answered;
       clock = c.self.inside.clock;
+      doubts = c.self.inside.doubts.items;
       past = c.self.inside.past;
     } in
     let node : ℕ = c.args.node in
@@ -43,6 +44,7 @@ returns-clause-run c =
       sent = c.self.inside.sent;
       answered = c.self.inside.answered;
       clock = c.self.inside.clock;
+      doubts = c.self.inside.doubts.items;
       past = c.self.inside.past;
     } in
     let node : ℕ = c.args.node in

@@ -17,6 +17,7 @@ returns-in-None-clause-made g c =
       sent = c.self.inside.sent;
       answered = c.self.inside.answered;
       clock = c.self.inside.clock;
+      doubts = c.self.inside.doubts.items;
       past = c.self.inside.past;
     } in
     let e : old ≡ c.args.self.now = c.self.view_is in

@@ -21,6 +21,7 @@ invariant_of-self-2 c =
       sent = c.self.inside.sent;
       answered = c.self.inside.answered;
       clock = c.self.inside.clock;
+      doubts = c.self.inside.doubts.items;
       past = c.self.inside.past;
     } in
     let running : is_stopped (network_of old) c.args.node ≡ false = subst (λ (s : State). is_stopped (network_of s) c.args.node ≡ false) (sym c.self.view_is) c.requires.running in
@@ -49,6 +50,7 @@ returns-clause-ok c =
       sent = c.self.inside.sent;
       answered = c.self.inside.answered;
       clock = c.self.inside.clock;
+      doubts = c.self.inside.doubts.items;
       past = c.self.inside.past;
     } in
     let running : is_stopped (network_of old) c.args.node ≡ false = subst (λ (s : State). is_stopped (network_of s) c.args.node ≡ false) (sym c.self.view_is) c.requires.running in
@@ -77,6 +79,7 @@ returns-clause-run c =
       sent = c.self.inside.sent;
       answered = c.self.inside.answered;
       clock = c.self.inside.clock;
+      doubts = c.self.inside.doubts.items;
       past = c.self.inside.past;
     } in
     let running : is_stopped (network_of old) c.args.node ≡ false = subst (λ (s : State). is_stopped (network_of s) c.args.node ≡ false) (sym c.self.view_is) c.requires.running in

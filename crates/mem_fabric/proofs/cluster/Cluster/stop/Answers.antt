@@ -27,6 +27,7 @@ invariant_of-self-2 c =
       sent = c.self.inside.sent;
       answered = c.self.inside.answered;
       clock = c.self.inside.clock;
+      doubts = c.self.inside.doubts.items;
       past = c.self.inside.past;
     } in
     let node : ℕ = c.args.node in
@@ -57,6 +58,7 @@ returns-clause-ok c =
       sent = c.self.inside.sent;
       answered = c.self.inside.answered;
       clock = c.self.inside.clock;
+      doubts = c.self.inside.doubts.items;
       past = c.self.inside.past;
     } in
     let node : ℕ = c.args.node in

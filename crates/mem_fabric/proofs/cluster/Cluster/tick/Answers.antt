@@ -22,6 +22,7 @@ invariant_of-self c =
       sent = c.self.inside.sent;
       answered = c.self.inside.answered;
       clock = c.self.inside.clock;
+      doubts = c.self.inside.doubts.items;
       past = c.self.inside.past;
     } in
     let new : State = record old { clock = moment; past = past } in
@@ -42,6 +43,7 @@ returns-clause-run c =
       sent = c.self.inside.sent;
       answered = c.self.inside.answered;
       clock = c.self.inside.clock;
+      doubts = c.self.inside.doubts.items;
       past = c.self.inside.past;
     } in
     let new : State = record old { clock = moment; past = past } in
