@@ -1,47 +1,47 @@
 -- What calls make of the nodes and of what was told.
-use Rattle.std.proofs.Common.{◌≡◌, ◌⊎◌, ℕ, ◌==◌, Bool, true, false, ◌&&◌, ◌||◌, not, cond, List, [], ◌∷◌, ◌++◌, Option, Some, None, refl, sym, ap, ◌∙◌, subst, inl, inr}
+use Rattle.std.proofs.Common.{◌≡◌, ◌≢◌, ◌⊎◌, ℕ, ◌==◌, Bool, true, false, ◌&&◌, ◌||◌, not, cond, List, [], ◌∷◌, ◌++◌, Option, Some, None, refl, sym, ap, ◌∙◌, subst}
 use Rattle.std.specs.Option.{is_some}
-use Rattle.std.specs.Prelude.{filter, ◌≢◌, IsSome}
+use Rattle.std.specs.List.{list_any}
+use Rattle.std.specs.Prelude.{filter, IsSome}
 use Rattle.cell_model.specs.declared.ask.Ask.{Ask}
 use Rattle.cell_model.specs.declared.ask.Reply.{Reply}
-use Rattle.cell_model.specs.Asks.{Answers, CanAnswer, IsRefusal, id_of}
-use Rattle.cell_model.specs.Cells.{join}
-use Rattle.cell_model.specs.Pages.{PagesCells}
+use Rattle.cell_model.specs.Asks.{CanAnswer}
 use Rattle.disk_core.specs.Content.{Content}
 use Rattle.disk_core.specs.Homes.{Home, Out}
-use Rattle.lab_nodes.specs.Holding.{settings_of}
-use Rattle.lab_nodes.specs.Layouts.{HaveLayouts, HomeHasLayouts, Layouts, asked_layouts}
-use Rattle.lab_nodes.specs.Nodes.{Holds, HomeHolds, IsFor, IsOutAs, NodesState, OnlyOwnOut, asked_cells, has_replica, is_up, never_opened, stands}
-use Rattle.lab_nodes.specs.Spots.{DiskFailed}
-use Rattle.mem_fabric.specs.Going.{AreNodesOf, GoesOn, HasTornBy, IsStopped, RunsAgain, SameNodes}
-use Rattle.mem_fabric.specs.GoingLaws.{bays_stay, packing_stays}
-use Rattle.mem_fabric.specs.Network.{MayAnswer, is_fault, run_step}
-use Rattle.mem_fabric.specs.Packing.{IsCalledPacked, IsPackedAt, KeepsPacking, PacksFrom, PacksTo, called_layouts, layouts_after}
-use Rattle.mem_fabric.specs.Past.{calls_of}
-use Rattle.mem_fabric.specs.Runs.{LeadsTo, RunsFrom}
+use Rattle.mem_fabric.specs.Causes.{FailsByItself}
+use Rattle.mem_fabric.specs.Doubts.{IsWell}
+use Rattle.mem_fabric.specs.Going.{AreNodesOf, GoesOn, IsStopped, RunsAgain, SameNodes}
+use Rattle.mem_fabric.specs.GoingLaws.{bays_stay}
+use Rattle.mem_fabric.specs.Network.{MayAnswer, Network, is_stopped, resumed, run_step, stands, told_as}
+use Rattle.mem_fabric.specs.Past.{calls_of, restart_did}
+use Rattle.mem_fabric.specs.Restarts.{Settles}
+use Rattle.mem_fabric.specs.Runs.{KeepsRuns, RunsFrom}
 use Rattle.mem_fabric.specs.Sound.{State, KeepsState, fresh_state, is_among, network_of, told_world}
-use Rattle.mem_fabric.specs.Torn.{has_torn}
-use Rattle.mem_fabric.proofs.Sounds.{fault_is, no_fault_is}
+use Rattle.mem_fabric.proofs.Sounds.{fault_is}
 use Rattle.mem_fabric.proofs.Stops.{among_more, among_less}
-use Rattle.mem_fabric.proofs.Worlds.{apart, same_cells, none_in_doubt}
-use Rattle.replica_core.specs.State.{IsPacked}
+use Rattle.mem_fabric.proofs.Worlds.{after_quiet, apart, same_in_doubt}
+use Rattle.node_lab.specs.Calls.{AsksNodes, AsksReplica, ClosesNodes, FailedIn, IsOutAs, OnlyOwnOut, OpensNodes, StayUnopened}
+use Rattle.node_lab.specs.Nodes.{Holds, HomeHolds, IsFor, NodesState, has_replica, is_of_node, is_up, never_opened, replica_at, slot_at}
+use Rattle.node_lab.specs.Places.{Places, is_fault, landed_at}
+use Rattle.node_lab.specs.Replicas.{settings_of}
+use Rattle.node_lab.specs.RunPlaces.{Known, LeadsTo, layouts_after, places_after, places_of}
+use Rattle.node_lab.specs.Slots.{ClosesWhere, GoesHome, OpensWhere, ReplicaSlot, StaysClosedWhere}
+use Rattle.node_lab.proofs.RestartLemmas.{places_closed, places_opened, places_unopened}
+use Rattle.node_lab.proofs.RunLemmas.{ask_leads, restart_leads, run_item}
+use Rattle.log_manifest.specs.declared.manifest.LogSettings.{LogSettings}
+use Rattle.replica_core.specs.State.{ReplicaState}
 use Rattle.world_model.specs.declared.shape.Shape.{Shape}
 use Rattle.world_model.specs.declared.step.Called.{Called}
+use Rattle.world_model.specs.declared.step.Did.{Did}
 use Rattle.world_model.specs.declared.step.Event.{Event}
 use Rattle.world_model.specs.declared.step.Step.{Step}
-use Rattle.world_model.specs.Fabric.{KeepsRun}
 use Rattle.world_model.specs.Lists.{numbered}
-use Rattle.world_model.specs.Record.{Record, Took}
+use Rattle.world_model.specs.Record.{Given, Record, Took}
 use Rattle.world_model.specs.Told.{told}
-use Rattle.world_model.specs.World.{Call, Cells, nothing_held, World, Change, Request, MayReply, MayRun, after, call_at, call_of, arriving_call, world}
-use Rattle.world_model.specs.declared.step.Did.{Did}
+use Rattle.world_model.specs.World.{Call, Cells, nothing_held, World, Request, call_at, call_of, world}
+use Rattle.world_model.proofs.CellLaws.{number_true}
 
 -- ---- which nodes are up
-
-still_up : (a b : Bool) → ((a && not b) && true) ≡ (a && not b)
-still_up true true = refl
-still_up true false = refl
-still_up false b = refl
 
 pub nodes_stay : {B D : Type 0} (s s' : State) (nodes : NodesState B D) → SameNodes s s' → AreNodesOf s nodes → AreNodesOf s' nodes
 nodes_stay s s' nodes same of = record {
@@ -50,40 +50,67 @@ nodes_stay s s' nodes same of = record {
 }
 
 -- a node stopped
-without : (a among here : Bool) → ((a && not among) && not here) ≡ (a && not (here || among))
+without : (a among here : Bool) → cond here false (a && not among) ≡ (a && not (here || among))
 without true true true = refl
 without true true false = refl
 without true false true = refl
 without true false false = refl
-without false among here = refl
+without false among true = refl
+without false among false = refl
 
-nodes_stop : {B D : Type 0} (s s' : State) (nodes nodes' : NodesState B D) (node : ℕ) → IsStopped s node s' → nodes'.shape ≡ nodes.shape → ((n p : ℕ) → is_up nodes' n p ≡ (is_up nodes n p && not (n == node)))
+closed_up : {D : Type 0} (b : Bool) (o : Option (ReplicaState D)) → is_some (cond b None o) ≡ cond b false (is_some o)
+closed_up true o = refl
+closed_up false o = refl
+
+nodes_stop : {B D : Type 0} (s s' : State) (nodes nodes' : NodesState B D) (node : ℕ) → IsStopped s node s' → nodes'.shape ≡ nodes.shape → ((n p : ℕ) → replica_at nodes' n p ≡ cond (n == node) None (replica_at nodes n p))
     → AreNodesOf s nodes → AreNodesOf s' nodes'
-nodes_stop s s' nodes nodes' node stopped named up of = record {
+nodes_stop s s' nodes nodes' node stopped named closed of = record {
   shape = named ∙ of.shape ∙ sym stopped.0;
-  up = λ n p. up n p ∙ ap (λ b. b && not (n == node)) (of.up n p) ∙ without (stands s.shape n p) (is_among s.stopped n) (n == node)
+  up = λ n p. ap is_some (closed n p) ∙ closed_up (n == node) (replica_at nodes n p) ∙ ap (λ b. cond (n == node) false b) (of.up n p) ∙ without (stands s.shape n p) (is_among s.stopped n) (n == node)
       ∙ ap (λ b. stands s.shape n p && not b) (sym (among_more s.stopped node n))
       ∙ ap (λ o. stands o n p && not (is_among (s.stopped ++ node ∷ []) n)) (sym stopped.0) ∙ ap (λ l. stands s'.shape n p && not (is_among l n)) (sym stopped.1);
 }
 
 -- a node runs again
-within : (a among here : Bool) → ((a && not among) || (here && a)) ≡ (a && not (not here && among))
-within true true true = refl
-within true true false = refl
-within true false true = refl
-within true false false = refl
-within false among true = refl
-within false among false = refl
+module _ {B D : Type 0} (s s' : State) (nodes nodes' : NodesState B D) (node : ℕ) (shape : Shape) (again : RunsAgain s node s') (named : nodes'.shape ≡ nodes.shape) (of : AreNodesOf s nodes) (for_shape : s.shape ≡ Some shape) (stopped : is_among s.stopped node ≡ true)
+    (up : (n p : ℕ) → is_of_node shape node n p ≡ true → is_up nodes' n p ≡ true) (others : (n p : ℕ) → is_of_node shape node n p ≡ false → replica_at nodes' n p ≡ replica_at nodes n p) where
+  among_still : (n : ℕ) → (here : Bool) → (n == node) ≡ here → is_among s'.stopped n ≡ cond here false (is_among s.stopped n)
+  among_still n here at = ap (λ l. is_among l n) again.1 ∙ among_less s.stopped node n ∙ ap (λ b. not b && is_among s.stopped n) at ∙ go here
+    where
+      go : (b : Bool) → (not b && is_among s.stopped n) ≡ cond b false (is_among s.stopped n)
+      go true = refl
+      go false = refl
 
-nodes_restart : {B D : Type 0} (s s' : State) (nodes nodes' : NodesState B D) (node : ℕ) → RunsAgain s node s' → nodes'.shape ≡ nodes.shape → ((n p : ℕ) → is_up nodes' n p ≡ (is_up nodes n p || ((n == node) && stands nodes.shape n p)))
-    → AreNodesOf s nodes → AreNodesOf s' nodes'
-nodes_restart s s' nodes nodes' node again named up of = record {
-  shape = named ∙ of.shape ∙ sym again.0;
-  up = λ n p. up n p ∙ ap (λ b. b || ((n == node) && stands nodes.shape n p)) (of.up n p) ∙ ap (λ o. (stands s.shape n p && not (is_among s.stopped n)) || ((n == node) && stands o n p)) of.shape
-      ∙ within (stands s.shape n p) (is_among s.stopped n) (n == node)
-      ∙ ap (λ b. stands s.shape n p && not b) (sym (among_less s.stopped node n))
-      ∙ ap (λ o. stands o n p && not (is_among (filter (λ other. not (other == node)) s.stopped) n)) (sym again.0) ∙ ap (λ l. stands s'.shape n p && not (is_among l n)) (sym again.1);
-}
+  shaped : (n p : ℕ) → stands s'.shape n p ≡ has_replica shape n p
+  shaped n p = ap (λ o. stands o n p) (again.0 ∙ for_shape)
+
+  goal_as : (n p : ℕ) (here : Bool) → (n == node) ≡ here → (has_replica shape n p && not (cond here false (is_among s.stopped n))) ≡ (stands s'.shape n p && not (is_among s'.stopped n))
+  goal_as n p here at = ap (λ b. b && not (cond here false (is_among s.stopped n))) (sym (shaped n p)) ∙ ap (λ b. stands s'.shape n p && not b) (sym (among_still n here at))
+
+  was : (n p : ℕ) → is_up nodes n p ≡ (has_replica shape n p && not (is_among s.stopped n))
+  was n p = of.up n p ∙ ap (λ o. stands o n p && not (is_among s.stopped n)) for_shape
+
+  and_false : (b : Bool) → (b && false) ≡ false
+  and_false true = refl
+  and_false false = refl
+
+  and_true : (b : Bool) → (b && true) ≡ b
+  and_true true = refl
+  and_true false = refl
+
+  number_is : (n : ℕ) → (n == node) ≡ true → is_among s.stopped n ≡ true
+  number_is n at = ap (λ k. is_among s.stopped k) (number_true n node at) ∙ stopped
+
+  runs_again_up : (n p : ℕ) (here : Bool) → (n == node) ≡ here → (due : Bool) → has_replica shape n p ≡ due → is_up nodes' n p ≡ (has_replica shape n p && not (cond here false (is_among s.stopped n)))
+  runs_again_up n p true at true due = up n p (ap (λ b. b && has_replica shape n p) at ∙ due) ∙ sym (ap (λ b. b && true) due)
+  runs_again_up n p true at false due = ap is_some (others n p (ap (λ b. b && has_replica shape n p) at ∙ due)) ∙ was n p ∙ ap (λ b. b && not (is_among s.stopped n)) due ∙ sym (ap (λ b. b && true) due)
+  runs_again_up n p false at due_is due = ap is_some (others n p (ap (λ b. b && has_replica shape n p) at)) ∙ was n p
+
+  pub nodes_restart : AreNodesOf s' nodes'
+  nodes_restart = record {
+    shape = named ∙ of.shape ∙ sym again.0;
+    up = λ n p. runs_again_up n p (n == node) refl (has_replica shape n p) refl ∙ goal_as n p (n == node) refl;
+  }
 
 -- a stopped node has no replica that is open
 pub down : {B D : Type 0} (s : State) (nodes : NodesState B D) (node : ℕ) → AreNodesOf s nodes → is_among s.stopped node ≡ true → (p : ℕ) → is_up nodes node p ≡ false
@@ -93,163 +120,67 @@ down s nodes node of stopped p = of.up node p ∙ ap (λ b. stands s.shape node 
     never true = refl
     never false = refl
 
+-- nor is one there
+none_there : {A : Type 0} (o : Option A) → is_some o ≡ false → o ≡ None
+none_there None e = refl
+none_there (Some x) e = absurd cc
+
+-- ---- whose disks are out
+
+module _ {D : Type 0} (tells : Type 0) (content : D → Content) (size : D → ℕ) (folder : List ℕ) (before : Option (List ℕ)) where
+  -- the disk of a replica is out under the folder where it is open, and else as it was before
+  abbrev IsOwn : ReplicaSlot D → Type 0
+  IsOwn slot = IsOutAs (is_some slot.replica) folder before slot.out
+
+  was_in : (open : Bool) (out : Option (List ℕ)) → IsOutAs open folder before out → out ≡ None → before ≡ None
+  was_in true out own e = own.0
+  was_in false out own e = sym own ∙ e
+
+  pub own_closed : (meant stops : Bool) (old new : ReplicaSlot D) → ClosesWhere tells content size meant stops old new → IsOwn old → IsOwn new
+  own_closed false stops old new is own = subst IsOwn (sym is) own
+  own_closed true stops old new is own = go old.replica refl is
+    where
+      go : (o : Option (ReplicaState D)) → old.replica ≡ o → GoesHome tells content size stops o old new → IsOwn new
+      go None e is = subst IsOwn (sym is) own
+      go (Some replica) e went =
+          let was : IsOutAs true folder before old.out = subst (λ (x : Option (ReplicaState D)). IsOutAs (is_some x) folder before old.out) e own in
+          subst IsOwn (sym went.0.is) (sym was.0)
+
+  pub own_opened : (due : Bool) (settings : LogSettings) (old new : ReplicaSlot D) → OpensWhere tells content size due settings folder old new → IsOwn old → IsOwn new
+  own_opened false settings old new is own = subst IsOwn (sym is) own
+  own_opened true settings old new opens own = subst IsOwn (sym opens.is) (was_in (is_some old.replica) old.out own opens.was_in, refl)
+
+  pub own_unopened : (due : Bool) (settings : LogSettings) (old new : ReplicaSlot D) → StaysClosedWhere tells content size due settings old new → IsOwn old → IsOwn new
+  own_unopened false settings old new is own = subst IsOwn (sym is) own
+  own_unopened true settings old new stays own =
+      subst (λ o. IsOutAs (is_some new.replica) folder before o) (sym stays.out) (subst (λ (x : Option (ReplicaState D)). IsOutAs (is_some x) folder before old.out) (sym stays.replica) own)
+
+-- a replica that was opened isn't down
+well_opened : {D : Type 0} (tells : Type 0) (content : D → Content) (size : D → ℕ) (due : Bool) (settings : LogSettings) (folder : List ℕ) (old new : ReplicaSlot D) → OpensWhere tells content size due settings folder old new → old.replica ≡ None → IsWell new.replica
+well_opened tells content size false settings folder old new is none = subst (λ (slot : ReplicaSlot _). IsWell slot.replica) (sym is) (subst (λ (o : Option (ReplicaState _)). IsWell o) (sym none) tt)
+well_opened tells content size true settings folder old new opens none = subst (λ (slot : ReplicaSlot _). IsWell slot.replica) (sym opens.is) opens.opened.up
+
 -- ---- calls that ask no replica
 
 -- what was told stays
 pub keeps_itself : (s : State) → KeepsState s s
-keeps_itself s = λ opening. ((λ r. r), refl, refl, λ shape first. ((λ p. p), refl))
+keeps_itself s = λ opening. ((λ r. r), λ shape first. ((λ p. p), refl))
 
-module _ {B D : Type 0} (bays_tell disks_tell : Type 0) (content : D → Content) (faults : D → ℕ) (home : B → Home D) (out : B → Out) (same : B → B → Type 0) where
-  abbrev Goes : State → NodesState B D → State → NodesState B D → Type 0
-  Goes s nodes s' nodes' = GoesOn bays_tell disks_tell content faults home out same s nodes s' nodes'
-
-  abbrev KeepsHeld : NodesState B D → NodesState B D → Type 0
-  KeepsHeld nodes nodes' = disks_tell → (shape : Shape) (folder : List ℕ) (cells : Cells) → Holds content home shape folder cells nodes → Holds content home shape folder cells nodes'
-
-  abbrev KeepsLaid : NodesState B D → NodesState B D → Type 0
-  KeepsLaid nodes nodes' = disks_tell → (shape : Shape) (folder : List ℕ) (layouts : Layouts) → HaveLayouts content home shape folder layouts nodes → HaveLayouts content home shape folder layouts nodes'
-
-  pub run_at : (s s' : State) (nodes nodes' : NodesState B D) (shape : Shape) (folder : List ℕ) → KeepsState s s' → (disks_tell → (cells : Cells) → Holds content home shape folder cells nodes → Holds content home shape folder cells nodes')
-      → KeepsRun (RunsFrom disks_tell content home (calls_of s.past) nodes shape folder) (RunsFrom disks_tell content home (calls_of s'.past) nodes' shape folder)
-  run_at s s' nodes nodes' shape folder keeps held = λ opening leads t calm.
-      let by = keeps opening in
-      let l = leads t (sym by.2 ∙ calm) in
-      record {
-        run = by.0 l.run;
-        holds = subst (λ (c : Cells). Holds content home shape folder c nodes') (sym by.1) (held t (world opening (told (calls_of s.past))).cells l.holds);
-      }
-
-  pub run_on : (s s' : State) (nodes nodes' : NodesState B D) → KeepsState s s' → KeepsHeld nodes nodes'
-      → (shape : Shape) (folder : List ℕ) → KeepsRun (RunsFrom disks_tell content home (calls_of s.past) nodes shape folder) (RunsFrom disks_tell content home (calls_of s'.past) nodes' shape folder)
-  run_on s s' nodes nodes' keeps held shape folder = run_at s s' nodes nodes' shape folder keeps (λ t. held t shape folder)
-
-  pub packs_at : (s s' : State) (nodes nodes' : NodesState B D) (shape : Shape) (folder : List ℕ) → KeepsState s s' → (disks_tell → (cells : Cells) → Holds content home shape folder cells nodes → Holds content home shape folder cells nodes')
-      → (disks_tell → (layouts : Layouts) → HaveLayouts content home shape folder layouts nodes → HaveLayouts content home shape folder layouts nodes')
-      → (opening : Cells) (first : Layouts) → PacksFrom disks_tell content home (calls_of s.past) nodes shape folder opening first → PacksFrom disks_tell content home (calls_of s'.past) nodes' shape folder opening first
-  packs_at s s' nodes nodes' shape folder keeps held laid opening first packs = λ t calm.
-      let by = keeps opening in
-      let p = packs t (sym by.2 ∙ calm) in
-      let stays = by.3 shape first in
-      record {
-        leads = run_at s s' nodes nodes' shape folder keeps held opening (λ _ _. p.leads) t calm;
-        packed = stays.0 p.packed;
-        layouts = subst (λ (l : Layouts). HaveLayouts content home shape folder l nodes') (sym stays.1) (laid t (layouts_after (settings_of shape) opening first (told (calls_of s.past))) p.layouts);
-      }
-
-  pub packing_by : (s s' : State) (nodes nodes' : NodesState B D) → KeepsState s s' → nodes'.shape ≡ nodes.shape → KeepsHeld nodes nodes' → KeepsLaid nodes nodes' → KeepsPacking disks_tell content home (calls_of s.past) nodes (calls_of s'.past) nodes'
-  packing_by s s' nodes nodes' keeps named held laid = λ standing.
-      (ap is_some named ∙ standing, λ shape folder. packs_at s s' nodes nodes' shape folder keeps (λ t. held t shape folder) (λ t. laid t shape folder))
-
-  pub packing_kept : (s s' : State) (nodes : NodesState B D) → KeepsState s s' → KeepsPacking disks_tell content home (calls_of s.past) nodes (calls_of s'.past) nodes
-  packing_kept s s' nodes keeps = packing_by s s' nodes nodes keeps refl (λ t shape folder cells h. h) (λ t shape folder layouts h. h)
-
-  torn_on : (s s' : State) → KeepsState s s' → HasTornBy disks_tell faults s → HasTornBy disks_tell faults s'
-  torn_on s s' keeps before = λ e. before (sym (keeps nothing_held).2 ∙ e)
-
-  -- nothing was done
-  pub goes_nowhere : (s : State) (nodes : NodesState B D) → same nodes.bays nodes.bays → AreNodesOf s nodes → Goes s nodes s nodes
-  goes_nowhere s nodes e of = record {
-    of = of;
-    run = λ shape folder opening r. r;
-    packing = packing_stays disks_tell content home (calls_of s.past) nodes;
-    bays = bays_stay bays_tell out same nodes e;
-    torn = λ t. t;
-  }
-
-  -- the nodes stay
-  pub goes_by : (s s' : State) (nodes : NodesState B D) → same nodes.bays nodes.bays → KeepsState s s' → SameNodes s s' → AreNodesOf s nodes → Goes s nodes s' nodes
-  goes_by s s' nodes e keeps stays of = record {
-    of = nodes_stay s s' nodes stays of;
-    run = run_on s s' nodes nodes keeps (λ t shape folder cells h. h);
-    packing = packing_kept s s' nodes keeps;
-    bays = bays_stay bays_tell out same nodes e;
-    torn = torn_on s s' keeps;
-  }
-
-  -- the nodes are others that hold the same
-  goes_with : (s s' : State) (nodes nodes' : NodesState B D) → KeepsState s s' → AreNodesOf s' nodes' → nodes'.shape ≡ nodes.shape → KeepsHeld nodes nodes' → KeepsLaid nodes nodes' → same nodes.bays nodes'.bays
-      → (bays_tell → (before : Out) → OnlyOwnOut out before nodes → OnlyOwnOut out before nodes') → Goes s nodes s' nodes'
-  goes_with s s' nodes nodes' keeps of named held laid e own = record {
-    of = of;
-    run = run_on s s' nodes nodes' keeps held;
-    packing = packing_by s s' nodes nodes' keeps named held laid;
-    bays = record { same_bays = e; own = own };
-    torn = torn_on s s' keeps;
-  }
-
-  -- the same nodes, tried in vain
-  pub goes_in_vain : (s s' : State) (nodes nodes' : NodesState B D) → KeepsState s s' → SameNodes s s' → AreNodesOf s nodes → nodes'.shape ≡ nodes.shape → ((n p : ℕ) → is_up nodes' n p ≡ is_up nodes n p) → KeepsHeld nodes nodes' → KeepsLaid nodes nodes' → same nodes.bays nodes'.bays
-      → (bays_tell → (before : Out) → OnlyOwnOut out before nodes → OnlyOwnOut out before nodes') → Goes s nodes s' nodes'
-  goes_in_vain s s' nodes nodes' keeps stays of named up held laid e own =
-      let of' = nodes_stay s s' nodes stays of in
-      goes_with s s' nodes nodes' keeps (record { shape = named ∙ of'.shape; up = λ n p. up n p ∙ of'.up n p }) named held laid e own
-
-  pub goes_stopped : (s s' : State) (nodes nodes' : NodesState B D) (node : ℕ) → KeepsState s s' → IsStopped s node s' → AreNodesOf s nodes → nodes'.shape ≡ nodes.shape → ((n p : ℕ) → is_up nodes' n p ≡ (is_up nodes n p && not (n == node))) → KeepsHeld nodes nodes' → KeepsLaid nodes nodes' → same nodes.bays nodes'.bays
-      → (bays_tell → (before : Out) → OnlyOwnOut out before nodes → OnlyOwnOut out before nodes') → Goes s nodes s' nodes'
-  goes_stopped s s' nodes nodes' node keeps stopped of named up held laid e own = goes_with s s' nodes nodes' keeps (nodes_stop s s' nodes nodes' node stopped named up of) named held laid e own
-
-  pub goes_again : (s s' : State) (nodes nodes' : NodesState B D) (node : ℕ) → KeepsState s s' → RunsAgain s node s' → AreNodesOf s nodes → nodes'.shape ≡ nodes.shape → ((n p : ℕ) → is_up nodes' n p ≡ (is_up nodes n p || ((n == node) && stands nodes.shape n p))) → KeepsHeld nodes nodes' → KeepsLaid nodes nodes' → same nodes.bays nodes'.bays
-      → (bays_tell → (before : Out) → OnlyOwnOut out before nodes → OnlyOwnOut out before nodes') → Goes s nodes s' nodes'
-  goes_again s s' nodes nodes' node keeps again of named up held laid e own = goes_with s s' nodes nodes' keeps (nodes_restart s s' nodes nodes' node again named up of) named held laid e own
-
--- ---- an opening
-
-module _ {B D : Type 0} (disks_tell : Type 0) (content : D → Content) (home : B → Home D) where
-  -- what was never opened holds what its disks at home stand for
-  pub fresh_runs : (s : State) (nodes : NodesState B D) (bays : B) (shape : Shape) (folder : List ℕ) (opening : Cells) → s ≡ fresh_state → nodes ≡ never_opened bays → (disks_tell → HomeHolds content home shape folder bays opening)
-      → RunsFrom disks_tell content home (calls_of s.past) nodes shape folder opening
-  fresh_runs s nodes bays shape folder opening fresh closed held = λ t calm.
-      subst (λ (x : State). LeadsTo disks_tell content home shape folder opening (calls_of x.past) nodes) (sym fresh)
-      (subst (λ (x : NodesState B D). LeadsTo disks_tell content home shape folder opening [] x) (sym closed) (record { run = tt; holds = record { named = tt; places = held t } }))
-
-  -- and is laid out as they are
-  pub fresh_packs : (nodes : NodesState B D) (bays : B) (shape : Shape) (folder : List ℕ) (opening : Cells) (first : Layouts) → nodes ≡ never_opened bays → (disks_tell → HomeHolds content home shape folder bays opening) → (disks_tell → HomeHasLayouts content home shape folder bays first)
-      → PacksFrom disks_tell content home [] nodes shape folder opening first
-  fresh_packs nodes bays shape folder opening first closed held laid = λ t calm.
-      subst (λ (x : NodesState B D). PacksTo disks_tell content home shape folder opening first [] x) (sym closed) (record {
-        leads = record { run = tt; holds = record { named = tt; places = held t } };
-        packed = tt;
-        layouts = record { named = tt; places = laid t };
-      })
-
-  -- nothing is said of how a first opening packs
-  pub packing_fresh : (nodes nodes' : NodesState B D) (calls calls' : List Called) → nodes ≡ never_opened nodes.bays → KeepsPacking disks_tell content home calls nodes calls' nodes'
-  packing_fresh nodes nodes' calls calls' closed = λ standing. absurd (let none : nodes.shape ≡ None = ap (λ (x : NodesState B D). x.shape) closed in cc)
-
-  -- where no replica was opened, the disks at home stand for what they did
-  pub home_stays : (nodes nodes' : NodesState B D) (shape : Shape) (folder : List ℕ) → nodes ≡ never_opened nodes.bays → nodes' ≡ never_opened nodes'.bays
-      → (disks_tell → (cells : Cells) → Holds content home shape folder cells nodes → Holds content home shape folder cells nodes')
-      → disks_tell → (cells : Cells) → HomeHolds content home shape folder nodes.bays cells → HomeHolds content home shape folder nodes'.bays cells
-  home_stays nodes nodes' shape folder closed closed' keeps t cells held =
-      let before : Holds content home shape folder cells nodes = subst (λ (x : NodesState B D). Holds content home shape folder cells x) (sym closed) (record { named = tt; places = held }) in
-      let after_it : Holds content home shape folder cells (never_opened nodes'.bays) = subst (λ (x : NodesState B D). Holds content home shape folder cells x) closed' (keeps t cells before) in
-      after_it.places
-
--- ---- a replica is asked
-
-and_true : (b : Bool) → (b && true) ≡ b
-and_true true = refl
-and_true false = refl
-
--- a call that ran a request leaves nothing in doubt just where the reply is no fault
-calm_run : (send : ℕ) (reply : Reply) (before : List Called) → has_torn (record { did = Did.Delivered Event.Quiet; steps = run_step send reply ∷ [] } ∷ before) ≡ false → (is_fault reply ≡ false) × (has_torn before ≡ false)
-calm_run send reply before calm = go (is_fault reply) refl calm
+-- nodes that are open are so for one shape and one folder
+open_for : {B D : Type 0} (s : State) (nodes : NodesState B D) (shape : Shape) (folder : List ℕ) → AreNodesOf s nodes → IsSome s.shape → IsFor shape folder nodes.shape nodes.folder → (nodes.shape ≡ Some shape) × (nodes.folder ≡ folder)
+open_for s nodes shape folder of open named = go nodes.shape refl named
   where
-    go : (b : Bool) → is_fault reply ≡ b → has_torn (record { did = Did.Delivered Event.Quiet; steps = cond b (Step.Torn send) (Step.Exec send reply) ∷ [] } ∷ before) ≡ false → (is_fault reply ≡ false) × (has_torn before ≡ false)
-    go true e calm = absurd cc
-    go false e calm = (e, calm)
+    go : (o : Option Shape) → nodes.shape ≡ o → IsFor shape folder o nodes.folder → (nodes.shape ≡ Some shape) × (nodes.folder ≡ folder)
+    go None e named = absurd (let none : s.shape ≡ None = sym of.shape ∙ e in cc)
+    go (Some found) e named = (e ∙ ap (λ x. Some x) named.0, named.1)
 
-torn_run : (send : ℕ) (reply : Reply) (before : List Called) → has_torn (record { did = Did.Delivered Event.Quiet; steps = run_step send reply ∷ [] } ∷ before) ≡ true → (is_fault reply ≡ true) ⊎ (has_torn before ≡ true)
-torn_run send reply before torn = go (is_fault reply) refl torn
+-- nodes that are open are so for some shape
+shape_of : {B D : Type 0} (s : State) (nodes : NodesState B D) → AreNodesOf s nodes → IsSome s.shape → (shape : Shape) × (nodes.shape ≡ Some shape)
+shape_of s nodes of open = go nodes.shape refl
   where
-    go : (b : Bool) → is_fault reply ≡ b → has_torn (record { did = Did.Delivered Event.Quiet; steps = cond b (Step.Torn send) (Step.Exec send reply) ∷ [] } ∷ before) ≡ true → (is_fault reply ≡ true) ⊎ (has_torn before ≡ true)
-    go true e torn = inl e
-    go false e torn = inr torn
-
--- nodes that are open are so for one shape
-open_for : (opened : Option Shape) (shape : Shape) (folder other : List ℕ) → IsSome opened → IsFor shape folder opened other → opened ≡ Some shape
-open_for None shape folder other standing named = absurd cc
-open_for (Some found) shape folder other standing named = ap (λ s. Some s) named.0
+    go : (o : Option Shape) → nodes.shape ≡ o → (shape : Shape) × (nodes.shape ≡ Some shape)
+    go None e = absurd (let none : s.shape ≡ None = sym of.shape ∙ e in cc)
+    go (Some shape) e = (shape, e)
 
 -- what the request of a number asks doesn't depend on what was held
 called_in : (opening : Cells) (items : Record) (send : ℕ) (request : Request) (call : Call) → numbered (world nothing_held items).sent send ≡ Some request → call_of (Some request) ≡ Some call → call_at (world opening items) send ≡ Some call
@@ -257,114 +188,157 @@ called_in opening items send request call is called = ap (λ (v : World). call_o
 
 -- a replica of a node that isn't stopped is up where the shape has one
 up_as : {B D : Type 0} (s : State) (nodes : NodesState B D) (node partition : ℕ) → AreNodesOf s nodes → is_among s.stopped node ≡ false → is_up nodes node partition ≡ stands s.shape node partition
-up_as s nodes node partition of runs = of.up node partition ∙ ap (λ b. stands s.shape node partition && not b) runs ∙ and_true (stands s.shape node partition)
+up_as s nodes node partition of runs = of.up node partition ∙ ap (λ b. stands s.shape node partition && not b) runs ∙ go (stands s.shape node partition)
+  where
+    go : (b : Bool) → (b && true) ≡ b
+    go true = refl
+    go false = refl
 
-module _ {B D : Type 0} (bays_tell disks_tell : Type 0) (content : D → Content) (faults : D → ℕ) (home : B → Home D) (out : B → Out) (same : B → B → Type 0) where
-  -- what nodes make of an ask
-  pub record AskedSo (nodes : NodesState B D) (node partition : ℕ) (ask : Ask) (reply : Reply) (nodes' : NodesState B D) : Type 0 where
-    pub none : is_up nodes node partition ≡ false → reply ≡ Reply.NoPartition
-    pub some : is_up nodes node partition ≡ true → CanAnswer ask reply × (reply ≢ Reply.NoPartition)
-    pub up : (n p : ℕ) → is_up nodes' n p ≡ is_up nodes n p
-    pub answered : disks_tell → (shape : Shape) (folder : List ℕ) (cells : Cells) → Holds content home shape folder cells nodes → reply ≢ Reply.Fault → is_up nodes node partition ≡ true → Answers (cells node partition (id_of ask)) ask reply ⊎ IsRefusal ask reply
-    pub pages : disks_tell → (shape : Shape) (folder : List ℕ) (cells : Cells) → Holds content home shape folder cells nodes → PagesCells (cells node partition) reply
-    pub holds : disks_tell → (shape : Shape) (folder : List ℕ) (cells : Cells) → Holds content home shape folder cells nodes → reply ≢ Reply.Fault → Holds content home shape folder (asked_cells cells node partition ask reply) nodes'
-    pub packed : disks_tell → (shape : Shape) (folder : List ℕ) (cells : Cells) (layouts : Layouts) → Holds content home shape folder cells nodes → HaveLayouts content home shape folder layouts nodes → reply ≢ Reply.Fault → is_up nodes node partition ≡ true → IsPacked (settings_of shape) (layouts node partition) (cells node partition (id_of ask)) ask reply
-    pub layouts : disks_tell → (shape : Shape) (folder : List ℕ) (cells : Cells) (layouts : Layouts) → Holds content home shape folder cells nodes → HaveLayouts content home shape folder layouts nodes → reply ≢ Reply.Fault → HaveLayouts content home shape folder (asked_layouts (settings_of shape) cells layouts node partition ask reply) nodes'
-    pub fault : reply ≡ Reply.Fault → disks_tell → DiskFailed faults
-    pub named : (nodes'.shape ≡ nodes.shape) × (nodes'.folder ≡ nodes.folder)
-    pub bays : nodes'.bays ≡ nodes.bays
+-- a node without such a replica says so, and any other replies what the ask can be answered
+pub may_answer : {B D : Type 0} (s : State) (nodes : NodesState B D) (call : Call) (reply : Reply) → AreNodesOf s nodes → is_among s.stopped call.node ≡ false → (is_up nodes call.node call.partition ≡ false → reply ≡ Reply.NoPartition)
+    → (is_up nodes call.node call.partition ≡ true → CanAnswer call.ask reply × (reply ≢ Reply.NoPartition)) → MayAnswer (network_of s) call reply
+may_answer s nodes call reply of runs none some =
+    let up : is_up nodes call.node call.partition ≡ stands s.shape call.node call.partition = up_as s nodes call.node call.partition of runs in
+    record { none = λ e. none (up ∙ e); some = λ e. some (up ∙ e) }
 
-  pub may_answer : (s : State) (nodes nodes' : NodesState B D) (call : Call) (reply : Reply) → AreNodesOf s nodes → is_among s.stopped call.node ≡ false → AskedSo nodes call.node call.partition call.ask reply nodes' → MayAnswer (network_of s) call reply
-  may_answer s nodes nodes' call reply of runs a =
-      let up : is_up nodes call.node call.partition ≡ stands s.shape call.node call.partition = up_as s nodes call.node call.partition of runs in
-      record { none = λ e. a.none (up ∙ e); some = λ e. a.some (up ∙ e) }
+module _ {B D : Type 0} (bays_tell disks_tell : Type 0) (content : D → Content) (home : B → Home D) (out : B → Out) (same : B → B → Type 0) where
+  abbrev Goes : State → NodesState B D → State → NodesState B D → Type 0
+  Goes s nodes s' nodes' = GoesOn bays_tell disks_tell content home out same s nodes s' nodes'
 
-  own_asked : (nodes nodes' : NodesState B D) (node partition : ℕ) (ask : Ask) (reply : Reply) → AskedSo nodes node partition ask reply nodes' → (before : Out) → OnlyOwnOut out before nodes → OnlyOwnOut out before nodes'
-  own_asked nodes nodes' node partition ask reply a before own = λ n p.
-      subst (λ u. IsOutAs u nodes'.folder (before n p) (out nodes'.bays n p)) (sym (a.up n p))
-      (subst (λ f. IsOutAs (is_up nodes n p) f (before n p) (out nodes'.bays n p)) (sym a.named.1)
-      (subst (λ (b : B). IsOutAs (is_up nodes n p) nodes.folder (before n p) (out b n p)) (sym a.bays) (own n p)))
+  -- what the nodes of a shape held they hold
+  abbrev KeepsHeld : Shape → List ℕ → NodesState B D → NodesState B D → Type 0
+  KeepsHeld shape folder nodes nodes' = disks_tell → (places : Places) → Holds content home shape folder places nodes → Holds content home shape folder places nodes'
 
-  -- an ask that is answered leads from what the nodes held to what they hold
-  leads_asked : (before : List Called) (nodes nodes' : NodesState B D) (send : ℕ) (request : Request) (call : Call) (reply : Reply)
-      → numbered (world nothing_held (told before)).sent send ≡ Some request → call_of (Some request) ≡ Some call → (world nothing_held (told before)).stopped call.node ≡ false
-      → AskedSo nodes call.node call.partition call.ask reply nodes' → is_fault reply ≡ false → has_torn before ≡ false → disks_tell
-      → (shape : Shape) (folder : List ℕ) (opening : Cells) → LeadsTo disks_tell content home shape folder opening before nodes
-      → LeadsTo disks_tell content home shape folder opening (record { did = Did.Delivered Event.Quiet; steps = Step.Exec send reply ∷ [] } ∷ before) nodes'
-  leads_asked before nodes nodes' send request call reply is called runs a calm sure t shape folder opening l =
-      let w : World = world opening (told before) in
-      let same_but : w ≡ record (world nothing_held (told before)) { cells = w.cells } = apart opening nothing_held (told before) in
-      let called_at : call_at w send ≡ Some call = called_in opening (told before) send request call is called in
-      let not_fault : reply ≢ Reply.Fault = no_fault_is reply calm in
-      let cells_are : (world opening (told (record { did = Did.Delivered Event.Quiet; steps = Step.Exec send reply ∷ [] } ∷ before))).cells ≡ asked_cells w.cells call.node call.partition call.ask reply =
-      same_cells (after w (Took (Step.Exec send reply))).cells ∙ ap (λ (o : Option Call). λ n p id. join (w.cells n p id) (arriving_call o reply n p id)) called_at in
-      let says : MayReply (w.doubts call.node call.partition) (w.cells call.node call.partition (id_of call.ask)) call.ask reply =
-      subst (λ (d : Option Change). MayReply d (w.cells call.node call.partition (id_of call.ask)) call.ask reply) (sym (none_in_doubt opening before sure call.node call.partition))
-      (reply_by (is_up nodes call.node call.partition) refl w.cells l.holds not_fault) in
-      let may : MayRun w send call reply = record { sent = called_at; running = ap (λ (v : World). v.stopped call.node) same_but ∙ runs; says = says; pages = a.pages t shape folder w.cells l.holds } in
+  pub runs_at : (s s' : State) (nodes nodes' : NodesState B D) (shape : Shape) (folder : List ℕ) → KeepsState s s' → KeepsHeld shape folder nodes nodes'
+      → KeepsRuns disks_tell content home (calls_of s.past) nodes (calls_of s'.past) nodes' shape folder
+  runs_at s s' nodes nodes' shape folder keeps held = λ opening first leads t.
+      let by = keeps opening in
+      let places = by.1 shape first in
+      let l = leads t in
       record {
-        run = ((l.run, (call, may)), tt);
-        holds = subst (λ (c : Cells). Holds content home shape folder c nodes') (sym cells_are) (a.holds t shape folder w.cells l.holds not_fault);
+        run = by.0 l.run;
+        packed = places.0 l.packed;
+        holds = subst (λ (x : Places). Holds content home shape folder x nodes') (sym places.1) (held t (places_after (settings_of shape) opening first (told (calls_of s.past))) l.holds);
       }
-    where
-      reply_by : (b : Bool) → is_up nodes call.node call.partition ≡ b → (cells : Cells) → Holds content home shape folder cells nodes → reply ≢ Reply.Fault → MayReply None (cells call.node call.partition (id_of call.ask)) call.ask reply
-      reply_by false e cells holds not_fault = inr (inr (a.none e))
-      reply_by true e cells holds not_fault = elim (a.answered t shape folder cells holds not_fault e) [
-        | inl answers ↦ inl answers
-        | inr refused ↦ inr (inl (refused, not_fault))
-      ]
 
-  -- and is full by the layout of its replica
-  packs_asked : (before : List Called) (nodes nodes' : NodesState B D) (send : ℕ) (request : Request) (call : Call) (reply : Reply)
-      → numbered (world nothing_held (told before)).sent send ≡ Some request → call_of (Some request) ≡ Some call → (world nothing_held (told before)).stopped call.node ≡ false
-      → AskedSo nodes call.node call.partition call.ask reply nodes' → is_fault reply ≡ false → has_torn before ≡ false → disks_tell
-      → (shape : Shape) (folder : List ℕ) (opening : Cells) (first : Layouts) → is_up nodes call.node call.partition ≡ has_replica shape call.node call.partition → PacksTo disks_tell content home shape folder opening first before nodes
-      → PacksTo disks_tell content home shape folder opening first (record { did = Did.Delivered Event.Quiet; steps = Step.Exec send reply ∷ [] } ∷ before) nodes'
-  packs_asked before nodes nodes' send request call reply is called runs a calm sure t shape folder opening first up p =
-      let w : World = world opening (told before) in
-      let layouts : Layouts = layouts_after (settings_of shape) opening first (told before) in
-      let called_at : call_at w send ≡ Some call = called_in opening (told before) send request call is called in
-      let not_fault : reply ≢ Reply.Fault = no_fault_is reply calm in
-      let packed : IsPackedAt (has_replica shape call.node call.partition) (settings_of shape) w.cells layouts call reply =
-      packed_at (has_replica shape call.node call.partition) up w.cells layouts p.leads.holds p.layouts not_fault in
-      record {
-        leads = leads_asked before nodes nodes' send request call reply is called runs a calm sure t shape folder opening p.leads;
-        packed = ((p.packed, subst (λ (o : Option Call). IsCalledPacked shape w.cells layouts o reply) (sym called_at) packed), tt);
-        layouts = subst (λ (o : Option Call). HaveLayouts content home shape folder (called_layouts (settings_of shape) w.cells layouts o reply) nodes') (sym called_at)
-            (a.layouts t shape folder w.cells layouts p.leads.holds p.layouts not_fault);
-      }
-    where
-      packed_at : (due : Bool) → is_up nodes call.node call.partition ≡ due → (cells : Cells) (layouts : Layouts) → Holds content home shape folder cells nodes → HaveLayouts content home shape folder layouts nodes → reply ≢ Reply.Fault → IsPackedAt due (settings_of shape) cells layouts call reply
-      packed_at false e cells layouts holds laid not_fault = tt
-      packed_at true e cells layouts holds laid not_fault = a.packed t shape folder cells layouts holds laid not_fault e
+  -- nothing was done
+  pub goes_nowhere : (s : State) (nodes : NodesState B D) → same nodes.bays nodes.bays → AreNodesOf s nodes → Goes s nodes s nodes
+  goes_nowhere s nodes e of = record { of = of; runs = λ shape folder opening first r. r; bays = bays_stay bays_tell out same nodes e }
 
-  pub goes_asked : (s s' : State) (nodes nodes' : NodesState B D) (send : ℕ) (request : Request) (call : Call) (reply : Reply) → same nodes.bays nodes.bays → AreNodesOf s nodes → SameNodes s s'
-      → calls_of s'.past ≡ record { did = Did.Delivered Event.Quiet; steps = run_step send reply ∷ [] } ∷ calls_of s.past
-      → numbered (told_world s.past).sent send ≡ Some request → call_of (Some request) ≡ Some call → (told_world s.past).stopped call.node ≡ false → is_among s.stopped call.node ≡ false
-      → AskedSo nodes call.node call.partition call.ask reply nodes' → GoesOn bays_tell disks_tell content faults home out same s nodes s' nodes'
-  goes_asked s s' nodes nodes' send request call reply e of stays told_is is called runs running a =
+  -- the nodes stay
+  pub goes_by : (s s' : State) (nodes : NodesState B D) → same nodes.bays nodes.bays → KeepsState s s' → SameNodes s s' → AreNodesOf s nodes → Goes s nodes s' nodes
+  goes_by s s' nodes e keeps stays of = record {
+    of = nodes_stay s s' nodes stays of;
+    runs = λ shape folder. runs_at s s' nodes nodes shape folder keeps (λ t places h. h);
+    bays = bays_stay bays_tell out same nodes e;
+  }
+
+  -- ---- nodes that are closed or opened
+
+  pub goes_stopped : (size : D → ℕ) (known : disks_tell → bays_tell) (s s' : State) (nodes nodes' : NodesState B D) (node : ℕ) → KeepsState s s' → IsStopped s node s' → AreNodesOf s nodes → IsSome s.shape
+      → ClosesNodes bays_tell disks_tell content size home out (λ n. n == node) true nodes nodes' → same nodes.bays nodes'.bays → Goes s nodes s' nodes'
+  goes_stopped size known s s' nodes nodes' node keeps stopped of open closes e = record {
+    of = nodes_stop s s' nodes nodes' node stopped closes.shape closes.replicas of;
+    runs = λ shape folder. runs_at s s' nodes nodes' shape folder keeps (λ t places holds.
+        places_closed bays_tell disks_tell content size home out shape folder places nodes nodes' t known holds (open_for s nodes shape folder of open holds.named).0 (λ n. n == node) true closes);
+    bays = record {
+      same_bays = e;
+      own = λ t before own n p. subst (λ f. IsOutAs (is_up nodes' n p) f (before n p) (out nodes'.bays n p)) (sym closes.same_folder)
+          (own_closed disks_tell content size nodes.folder (before n p) (n == node) true (slot_at home out nodes.folder nodes n p) (slot_at home out nodes.folder nodes' n p) (closes.slots t n p) (own n p));
+    };
+  }
+
+  -- a node that was to run again stays stopped
+  pub goes_in_vain : (size : D → ℕ) (known : disks_tell → bays_tell) (s s' : State) (nodes nodes' : NodesState B D) (node : ℕ) → KeepsState s s' → SameNodes s s' → AreNodesOf s nodes → IsSome s.shape
+      → ((shape : Shape) → nodes.shape ≡ Some shape → StayUnopened bays_tell disks_tell content size home out (is_of_node shape node) (settings_of shape) nodes.folder nodes nodes') → same nodes.bays nodes'.bays → Goes s nodes s' nodes'
+  goes_in_vain size known s s' nodes nodes' node keeps stays of open closed e =
+      let found = shape_of s nodes of open in
+      let closes = closed found.0 found.1 in
       let of' = nodes_stay s s' nodes stays of in
       record {
-        of = record { shape = a.named.0 ∙ of'.shape; up = λ n p. a.up n p ∙ of'.up n p };
-        run = λ shape folder opening leads t calm.
-            let both = calm_run send reply (calls_of s.past) (ap has_torn (sym told_is) ∙ calm) in
-            subst (λ (calls : List Called). LeadsTo disks_tell content home shape folder opening calls nodes') (sym told_is)
-            (subst (λ (b : Bool). LeadsTo disks_tell content home shape folder opening (record { did = Did.Delivered Event.Quiet; steps = cond b (Step.Torn send) (Step.Exec send reply) ∷ [] } ∷ calls_of s.past) nodes') (sym both.0)
-            (leads_asked (calls_of s.past) nodes nodes' send request call reply is called runs a both.0 both.1 t shape folder opening (leads t both.1)));
-        packing = λ standing. (
-          ap is_some a.named.0 ∙ standing,
-          λ shape folder opening first packs t calm.
-              let both = calm_run send reply (calls_of s.past) (ap has_torn (sym told_is) ∙ calm) in
-              let p = packs t both.1 in
-              let up : is_up nodes call.node call.partition ≡ has_replica shape call.node call.partition =
-              up_as s nodes call.node call.partition of running ∙ ap (λ o. stands o call.node call.partition) (sym of.shape ∙ open_for nodes.shape shape folder nodes.folder standing p.leads.holds.named) in
-              subst (λ (calls : List Called). PacksTo disks_tell content home shape folder opening first calls nodes') (sym told_is)
-              (subst (λ (b : Bool). PacksTo disks_tell content home shape folder opening first (record { did = Did.Delivered Event.Quiet; steps = cond b (Step.Torn send) (Step.Exec send reply) ∷ [] } ∷ calls_of s.past) nodes') (sym both.0)
-              (packs_asked (calls_of s.past) nodes nodes' send request call reply is called runs a both.0 both.1 t shape folder opening first up p)),
-        );
-        bays = record { same_bays = subst (λ (b : B). same nodes.bays b) (sym a.bays) e; own = λ t. own_asked nodes nodes' call.node call.partition call.ask reply a };
-        torn = λ before torn t. elim (torn_run send reply (calls_of s.past) (ap has_torn (sym told_is) ∙ torn)) [
-          | inl fault ↦ ∣ a.fault (fault_is reply fault) t ∣₁
-          | inr earlier ↦ before earlier t
-        ];
+        of = record { shape = closes.shape ∙ of'.shape; up = λ n p. ap is_some (closes.replicas n p) ∙ of'.up n p };
+        runs = λ shape folder. runs_at s s' nodes nodes' shape folder keeps (λ t places holds.
+            let is = open_for s nodes shape folder of open holds.named in
+            places_unopened bays_tell disks_tell content size home out shape folder places nodes nodes' t known holds (is_of_node shape node)
+            (subst (λ f. StayUnopened bays_tell disks_tell content size home out (is_of_node shape node) (settings_of shape) f nodes nodes') is.1 (closed shape is.0)));
+        bays = record {
+          same_bays = e;
+          own = λ t before own n p. subst (λ f. IsOutAs (is_up nodes' n p) f (before n p) (out nodes'.bays n p)) (sym closes.same_folder)
+              (own_unopened disks_tell content size nodes.folder (before n p) (is_of_node found.0 node n p) (settings_of found.0) (slot_at home out nodes.folder nodes n p) (slot_at home out nodes.folder nodes' n p) (closes.slots t n p) (own n p));
+        };
+      }
+
+  -- nothing comes of a move, or an event was given
+  leads_quiet : (shape : Shape) (folder : List ℕ) (opening : Cells) (first : Known) (before : Record) (nodes : NodesState B D) → LeadsTo content home shape folder opening first before nodes → LeadsTo content home shape folder opening first (Given Event.Quiet ∷ before) nodes
+  leads_quiet shape folder opening first before nodes l = record {
+    run = (l.run, tt);
+    packed = (l.packed, tt);
+    holds = subst (λ (v : World). Holds content home shape folder (places_of v (layouts_after (settings_of shape) opening first before)) nodes) (sym (after_quiet (world opening before))) l.holds;
+  }
+
+  leads_restarted : (ordered : Bool) (node : ℕ) (done : List ℕ) (shape : Shape) (folder : List ℕ) (opening : Cells) (first : Known) (before : List Called) (nodes : NodesState B D)
+      → LeadsTo content home shape folder opening first (Took (Step.Restart node done) ∷ told before) nodes
+      → LeadsTo content home shape folder opening first (told (record { did = restart_did ordered node; steps = Step.Restart node done ∷ [] } ∷ before)) nodes
+  leads_restarted true node done shape folder opening first before nodes l = l
+  leads_restarted false node done shape folder opening first before nodes l = leads_quiet shape folder opening first (Took (Step.Restart node done) ∷ told before) nodes l
+
+  -- a node runs again
+  pub goes_again : (size faults : D → ℕ) (known : disks_tell → bays_tell) (s s' : State) (nodes nodes' : NodesState B D) (node : ℕ) (ordered : Bool) → Settles disks_tell s nodes' node ordered s' → RunsAgain s node s' → AreNodesOf s nodes → IsSome s.shape
+      → is_among s.stopped node ≡ true → is_stopped (network_of s) node ≡ true → (nodes'.shape ≡ nodes.shape) × (nodes'.folder ≡ nodes.folder)
+      → ((shape : Shape) → nodes.shape ≡ Some shape → OpensNodes bays_tell disks_tell content size home out (is_of_node shape node) (settings_of shape) nodes.folder nodes nodes') → same nodes.bays nodes'.bays → Goes s nodes s' nodes'
+  goes_again size faults known s s' nodes nodes' node ordered settles again of open among stopped named opened e =
+      let found = shape_of s nodes of open in
+      let opens = opened found.0 found.1 in
+      let told_is : calls_of s'.past ≡ record { did = restart_did ordered node; steps = Step.Restart node settles.done ∷ [] } ∷ calls_of s.past = ap (λ (n : Network). n.calls) settles.network in
+      let none : (p : ℕ) → replica_at nodes node p ≡ None = λ p. none_there (replica_at nodes node p) (down s nodes node of among p) in
+      record {
+        of = nodes_restart s s' nodes nodes' node found.0 again named.0 of (sym of.shape ∙ found.1) among opens.up opens.others;
+        runs = λ shape folder opening first leads t.
+            let l = leads t in
+            let is = open_for s nodes shape folder of open l.holds.named in
+            let opens' : OpensNodes bays_tell disks_tell content size home out (is_of_node shape node) (settings_of shape) folder nodes nodes' = subst (λ f. OpensNodes bays_tell disks_tell content size home out (is_of_node shape node) (settings_of shape) f nodes nodes') is.1 (opened shape is.0) in
+            let well : (p : ℕ) → IsWell (replica_at nodes' node p) =
+            λ p. well_opened disks_tell content size (is_of_node shape node node p) (settings_of shape) folder (slot_at home out folder nodes node p) (slot_at home out folder nodes' node p) (opens'.slots (known t) node p) (none p) in
+            let says : (p : ℕ) → list_any (λ q. q == p) settles.done ≡ landed_at ((world opening (told (calls_of s.past))).doubts node p) (replica_at nodes' node p) =
+            λ p. settles.landed t well p ∙ ap (λ o. landed_at o (replica_at nodes' node p)) (sym (same_in_doubt opening nothing_held (told (calls_of s.past)) node p)) in
+            let for : IsFor shape folder nodes'.shape nodes'.folder = subst (λ o. IsFor shape folder o nodes'.folder) (sym (named.0 ∙ is.0)) (refl, named.1 ∙ is.1) in
+            subst (λ (calls : List Called). LeadsTo content home shape folder opening first (told calls) nodes') (sym told_is)
+            (leads_restarted ordered node settles.done shape folder opening first (calls_of s.past) nodes'
+            (restart_leads disks_tell content size faults home shape folder opening first (told (calls_of s.past)) nodes nodes' t l node settles.done
+            (ap (λ (v : World). v.stopped node) (apart opening nothing_held (told (calls_of s.past))) ∙ stopped) says
+            (places_opened bays_tell disks_tell content size home out shape folder (places_of (world opening (told (calls_of s.past))) (layouts_after (settings_of shape) opening first (told (calls_of s.past)))) nodes nodes' t known l.holds for (λ n. n == node)
+            (λ n p at. subst (λ (i : ℕ). replica_at nodes i p ≡ None) (sym (number_true n node at)) (none p)) opens')));
+        bays = record {
+          same_bays = e;
+          own = λ t before own n p. subst (λ f. IsOutAs (is_up nodes' n p) f (before n p) (out nodes'.bays n p)) (sym named.1)
+              (own_opened disks_tell content size nodes.folder (before n p) (is_of_node found.0 node n p) (settings_of found.0) (slot_at home out nodes.folder nodes n p) (slot_at home out nodes.folder nodes' n p) (opens.slots t n p) (own n p));
+        };
+      }
+
+  -- ---- a replica is asked
+
+  pub goes_asked : (size faults : D → ℕ) (s s' : State) (nodes nodes' : NodesState B D) (send : ℕ) (request : Request) (call : Call) (reply : Reply) → same nodes.bays nodes.bays → AreNodesOf s nodes → IsSome s.shape → SameNodes s s'
+      → calls_of s'.past ≡ record { did = Did.Delivered Event.Quiet; steps = run_step send reply ∷ [] } ∷ calls_of s.past
+      → numbered (told_world s.past).sent send ≡ Some request → call_of (Some request) ≡ Some call → (told_world s.past).stopped call.node ≡ false → is_among s.stopped call.node ≡ false
+      → AsksNodes disks_tell content size faults nodes call.node call.partition call.ask reply nodes' → ((n p : ℕ) → is_up nodes' n p ≡ is_up nodes n p) → Goes s nodes s' nodes'
+  goes_asked size faults s s' nodes nodes' send request call reply e of open stays told_is is called runs running asked up =
+      let of' = nodes_stay s s' nodes stays of in
+      record {
+        of = record { shape = asked.shape ∙ of'.shape; up = λ n p. up n p ∙ of'.up n p };
+        runs = λ shape folder opening first leads t.
+            let l = leads t in
+            let shaped = open_for s nodes shape folder of open l.holds.named in
+            let due_up : has_replica shape call.node call.partition ≡ true → is_up nodes call.node call.partition ≡ true =
+            λ due. up_as s nodes call.node call.partition of running ∙ ap (λ o. stands o call.node call.partition) (sym of.shape ∙ shaped.0) ∙ due in
+            subst (λ (calls : List Called). LeadsTo content home shape folder opening first (told calls) nodes') (sym told_is)
+            (leads_quiet shape folder opening first (run_item send reply ∷ told (calls_of s.past)) nodes'
+            (ask_leads disks_tell content size faults home shape folder opening first (told (calls_of s.past)) nodes nodes' t l send call reply (called_in opening (told (calls_of s.past)) send request call is called) asked
+            (ap (λ (v : World). v.stopped call.node) (apart opening nothing_held (told (calls_of s.past))) ∙ runs) due_up));
+        bays = record {
+          same_bays = subst (λ (b : B). same nodes.bays b) (sym asked.same_bays) e;
+          own = λ t before own n p.
+              subst (λ u. IsOutAs u nodes'.folder (before n p) (out nodes'.bays n p)) (sym (up n p))
+              (subst (λ f. IsOutAs (is_up nodes n p) f (before n p) (out nodes'.bays n p)) (sym asked.folder)
+              (subst (λ (b : B). IsOutAs (is_up nodes n p) nodes.folder (before n p) (out b n p)) (sym asked.same_bays) (own n p)));
+        };
       }

@@ -73,6 +73,7 @@ pub fn note_doubt(
 /// Drops what is in doubt at a replica.
 fn drop_doubt(doubts: &mut Vec<Doubt>, node: u32, partition: u16)
     ensures items { doubts.new.items ≡ filter (λ doubt. not (is_doubt_at node partition doubt)) doubts.old.items }
+    ensures room { vec_capacity doubts.new ≡ vec_capacity doubts.old }
 {
     doubts.retain(|doubt| !(doubt.node == node && doubt.partition == partition));
 }
