@@ -11,7 +11,7 @@ use Rattle.disk_core.specs.Homes.{Home, Out}
 use Rattle.mem_fabric.specs.Causes.{FailsByItself}
 use Rattle.mem_fabric.specs.Doubts.{IsWell}
 use Rattle.mem_fabric.specs.Going.{AreNodesOf, GoesOn, IsStopped, RunsAgain, SameNodes}
-use Rattle.mem_fabric.specs.GoingLaws.{bays_stay}
+use Rattle.mem_fabric.specs.GoingLaws.{bays_stay, bays_on}
 use Rattle.mem_fabric.specs.Network.{MayAnswer, Network, is_stopped, resumed, run_step, stands, told_as}
 use Rattle.mem_fabric.specs.Past.{calls_of, restart_did}
 use Rattle.mem_fabric.specs.Restarts.{Settles}
@@ -224,6 +224,14 @@ module _ {B D : Type 0} (bays_tell disks_tell : Type 0) (content : D → Content
   -- nothing was done
   pub goes_nowhere : (s : State) (nodes : NodesState B D) → same nodes.bays nodes.bays → AreNodesOf s nodes → Goes s nodes s nodes
   goes_nowhere s nodes e of = record { of = of; runs = λ shape folder opening first r. r; bays = bays_stay bays_tell out same nodes e }
+
+  -- one goes on from where another came
+  pub goes_on : (s1 : State) (n1 : NodesState B D) (s2 : State) (n2 : NodesState B D) (s3 : State) (n3 : NodesState B D) → (same n1.bays n2.bays → same n2.bays n3.bays → same n1.bays n3.bays) → Goes s1 n1 s2 n2 → Goes s2 n2 s3 n3 → Goes s1 n1 s3 n3
+  goes_on s1 n1 s2 n2 s3 n3 joins p q = record {
+    of = q.of;
+    runs = λ shape folder opening first r. q.runs shape folder opening first (p.runs shape folder opening first r);
+    bays = bays_on bays_tell out same n1 n2 n3 joins p.bays q.bays;
+  }
 
   -- the nodes stay
   pub goes_by : (s s' : State) (nodes : NodesState B D) → same nodes.bays nodes.bays → KeepsState s s' → SameNodes s s' → AreNodesOf s nodes → Goes s nodes s' nodes

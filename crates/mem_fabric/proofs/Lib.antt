@@ -5,5 +5,6 @@ pub mod Sounds
 pub mod Stops
 pub mod Making
 pub mod Goes
+pub mod Fails
 pub mod Answering
 pub mod Playing

@@ -47,7 +47,7 @@ has_order false shape (Order.Level p a b) h = absurd h
 
 pub plays_order : (given : List Move) (n n' : Network) (order : Order) (answer : Told) → TakesOrder n.shape order → Obeys n order answer n' → Plays given n given n' true
 plays_order given n n' order answer takes obeys =
-    (Orders order answer ∷ [], (λ w. tt), record { moves = sym (append-nil given); may = (tt, (takes, obeys.may)); network = obeys.network })
+    (Orders order answer obeys.done ∷ [], (λ w. tt), record { moves = sym (append-nil given); may = (tt, (takes, obeys.may)); network = obeys.network })
 
 -- ---- what an order tells
 
@@ -73,41 +73,41 @@ stopped_in (Withheld other frame ∷ before) node = stopped_in before node
 stopped_in (Decided operation outcome ∷ before) node = stopped_in before node
 
 -- by the steps of an order it came to its answer
-comes_to : (n : Network) (order : Order) (answer : Told) → MayBeTold n order answer → ComesTo order answer (order_steps order answer) (told n.calls)
-comes_to n (Order.Stop node) answer may = subst (λ a. ComesTo (Order.Stop node) a (order_steps (Order.Stop node) a) (told n.calls)) (sym may) (go (is_stopped n node) (sym (stopped_in (told n.calls) node)))
+comes_to : (n : Network) (order : Order) (answer : Told) (done : List ℕ) → MayBeTold n order answer → ComesTo order answer (order_steps order answer done) (told n.calls)
+comes_to n (Order.Stop node) answer done may = subst (λ a. ComesTo (Order.Stop node) a (order_steps (Order.Stop node) a done) (told n.calls)) (sym may) (go (is_stopped n node) (sym (stopped_in (told n.calls) node)))
   where
-    go : (b : Bool) → is_stopped_by node (told n.calls) ≡ b → ComesTo (Order.Stop node) (cond b Told.Already Told.Done) (order_steps (Order.Stop node) (cond b Told.Already Told.Done)) (told n.calls)
+    go : (b : Bool) → is_stopped_by node (told n.calls) ≡ b → ComesTo (Order.Stop node) (cond b Told.Already Told.Done) (order_steps (Order.Stop node) (cond b Told.Already Told.Done) done) (told n.calls)
     go true e = (refl, e)
     go false e = (refl, e)
-comes_to n (Order.Restart node) answer may = go (is_stopped n node) (sym (stopped_in (told n.calls) node)) answer may
+comes_to n (Order.Restart node) answer done may = go (is_stopped n node) (sym (stopped_in (told n.calls) node)) answer may
   where
-    go : (b : Bool) → is_stopped_by node (told n.calls) ≡ b → (told_so : Told) → MayRestart b node told_so → ComesTo (Order.Restart node) told_so (order_steps (Order.Restart node) told_so) (told n.calls)
-    go false e told_so may = subst (λ a. ComesTo (Order.Restart node) a (order_steps (Order.Restart node) a) (told n.calls)) (sym may) (refl, e)
-    go true e Told.Done may = (([], refl), e)
+    go : (b : Bool) → is_stopped_by node (told n.calls) ≡ b → (told_so : Told) → MayRestart b node told_so → ComesTo (Order.Restart node) told_so (order_steps (Order.Restart node) told_so done) (told n.calls)
+    go false e told_so may = subst (λ a. ComesTo (Order.Restart node) a (order_steps (Order.Restart node) a done) (told n.calls)) (sym may) (refl, e)
+    go true e Told.Done may = ((done, refl), e)
     go true e (Told.Refused refusal) may = (refl, may, e)
     go true e (Told.Stuck PullCause.Fault) may = (refl, e)
     go true e (Told.Stuck PullCause.Memory) may = (refl, e)
     go true e _ may = absurd may
-comes_to n (Order.Pull a b p) answer may = absurd may
-comes_to n (Order.Compact a p) answer may = absurd may
-comes_to n (Order.Level p a b) answer may = absurd may
+comes_to n (Order.Pull a b p) answer done may = absurd may
+comes_to n (Order.Compact a p) answer done may = absurd may
+comes_to n (Order.Level p a b) answer done may = absurd may
 
 -- an order tells its steps, as one call
-pub calls_on : (n : Network) (order : Order) (answer : Told) → (after_order n order answer).calls ≡ record { did = Did.Administered order answer; steps = order_steps order answer } ∷ n.calls
-calls_on n (Order.Stop node) Told.Done = refl
-calls_on n (Order.Restart node) Told.Done = refl
-calls_on n _ _ = refl
+pub calls_on : (n : Network) (order : Order) (answer : Told) (done : List ℕ) → (after_order n order answer done).calls ≡ record { did = Did.Administered order answer; steps = order_steps order answer done } ∷ n.calls
+calls_on n (Order.Stop node) Told.Done done = refl
+calls_on n (Order.Restart node) Told.Done done = refl
+calls_on n _ _ done = refl
 
-network_steps : (order : Order) (answer : Told) → AllNetwork (order_steps order answer)
-network_steps (Order.Stop node) Told.Done = (refl, tt)
-network_steps (Order.Restart node) Told.Done = (refl, tt)
-network_steps _ _ = tt
+network_steps : (order : Order) (answer : Told) (done : List ℕ) → AllNetwork (order_steps order answer done)
+network_steps (Order.Stop node) Told.Done done = (refl, tt)
+network_steps (Order.Restart node) Told.Done done = (refl, tt)
+network_steps _ _ done = tt
 
 pub tells_order : (s s' : State) (order : Order) (answer : Told) → Obeys (network_of s) order answer (network_of s') → TellsOrder (Ok answer) (Some (calls_of s.past)) (Some (calls_of s'.past)) order
 tells_order s s' order answer obeys =
     let n : Network = network_of s in
-    let calls : calls_of s'.past ≡ record { did = Did.Administered order answer; steps = order_steps order answer } ∷ calls_of s.past = ap (λ (m : Network). m.calls) obeys.network ∙ calls_on n order answer in
-    (record { did = Did.Administered order answer; steps = order_steps order answer }, record { did = refl; network = network_steps order answer; comes = comes_to n order answer obeys.may }, ap (λ l. Some l) calls)
+    let calls : calls_of s'.past ≡ record { did = Did.Administered order answer; steps = order_steps order answer obeys.done } ∷ calls_of s.past = ap (λ (m : Network). m.calls) obeys.network ∙ calls_on n order answer obeys.done in
+    (record { did = Did.Administered order answer; steps = order_steps order answer obeys.done }, record { did = refl; network = network_steps order answer obeys.done; comes = comes_to n order answer obeys.done obeys.may }, ap (λ l. Some l) calls)
 
 -- ---- events that waited, and moves
 
@@ -115,7 +115,7 @@ pub plays_given : (given : List Move) (n n' : Network) (event : Event) → IsOld
 plays_given given n n' event oldest e = (Gives event ∷ [], (λ w. tt), record { moves = sym (append-nil given); may = (tt, oldest); network = e })
 
 pub plays_next : (given given' : List Move) (n n' : Network) (chosen : Move) (result : Result Event Memory) → IsSome n.shape → n.queue ≡ [] → Does n chosen n' result → given' ≡ given ++ chosen ∷ [] → Plays given n given' n' (is_ok result)
-plays_next given given' n n' chosen (Ok event) some calm m e = (Moves chosen m.reply m.opened ∷ [], (λ w. tt), record { moves = e; may = (tt, (some, calm, m.may)); network = m.network })
+plays_next given given' n n' chosen (Ok event) some calm m e = (Moves chosen m.chance ∷ [], (λ w. tt), record { moves = e; may = (tt, (some, calm, m.may)); network = m.network })
 plays_next given given' n n' chosen (Err memory) some calm m e = (Fails (Some chosen) ∷ [], (λ w. absurd cc), record { moves = e; may = (tt, tt); network = m })
 
 pub most_next : (given given' : List Move) (chosen : Move) (result : Result Event Memory) → given' ≡ given ++ chosen ∷ [] → OnErr result (AtMostOne given given')
@@ -145,14 +145,14 @@ keeps_shape n (Sends node frame) shape may e = sent_shape (is_stopped n node)
     sent_shape : (b : Bool) → (cond b (after_steps n (Did.Requested node frame) (Step.Refused node frame ∷ [])) (after_sent n node frame)).shape ≡ Some shape
     sent_shape true = e
     sent_shape false = e
-keeps_shape n (Orders order answer) shape may e = ordered_shape order answer
+keeps_shape n (Orders order answer done) shape may e = ordered_shape order answer
   where
-    ordered_shape : (order : Order) (answer : Told) → (after_order n order answer).shape ≡ Some shape
+    ordered_shape : (order : Order) (answer : Told) → (after_order n order answer done).shape ≡ Some shape
     ordered_shape (Order.Stop node) Told.Done = e
     ordered_shape (Order.Restart node) Told.Done = e
     ordered_shape _ _ = e
 keeps_shape n (Gives event) shape may e = e
-keeps_shape n (Moves chosen reply opened) shape may e = e
+keeps_shape n (Moves chosen chance) shape may e = e
 keeps_shape n (Fails chosen) shape may e = e
 
 keeps_shape_all : (n : Network) (acts : List Act) (shape : Shape) → AllMay n acts → n.shape ≡ Some shape → (all_acted n acts).shape ≡ Some shape
@@ -167,9 +167,9 @@ ordered_by n (Sends node frame) = sent_by (is_stopped n node)
     sent_by : (b : Bool) → orders_told (cond b (after_steps n (Did.Requested node frame) (Step.Refused node frame ∷ [])) (after_sent n node frame)).calls ≡ orders_told n.calls
     sent_by true = refl
     sent_by false = refl
-ordered_by n (Orders order answer) = ap orders_told (calls_on n order answer)
+ordered_by n (Orders order answer done) = ap orders_told (calls_on n order answer done)
 ordered_by n (Gives event) = refl
-ordered_by n (Moves chosen reply opened) = refl
+ordered_by n (Moves chosen chance) = refl
 ordered_by n (Fails chosen) = refl
 
 acts_ordered : (n : Network) (acts : List Act) → orders_told (all_acted n acts).calls ≡ orders_of acts ++ orders_told n.calls

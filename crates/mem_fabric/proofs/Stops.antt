@@ -8,11 +8,15 @@ use Rattle.mem_fabric.specs.declared.flight.Asked.{Asked}
 use Rattle.mem_fabric.specs.declared.flight.Replied.{Replied}
 use Rattle.mem_fabric.specs.declared.past.Past.{Past}
 use Rattle.mem_fabric.specs.Network.{is_stopped, halted, requests_elsewhere, after_stop, after_given, IsOldest}
-use Rattle.mem_fabric.specs.Doubts.{doubts_elsewhere}
+use Rattle.mem_fabric.specs.declared.doubts.Doubt.{Doubt}
+use Rattle.mem_fabric.specs.Doubts.{IsWell, doubts_elsewhere, doubts_landed, partitions_on}
+use Rattle.mem_fabric.specs.Restarts.{Settles}
+use Rattle.node_lab.specs.Nodes.{NodesState, replica_at}
+use Rattle.std.specs.List.{list_any}
 use Rattle.mem_fabric.specs.Past.{calls_of, order_steps, restart_did}
 use Rattle.mem_fabric.specs.Sound.{State, told_world, IsSent, IsGiven, is_among, AllShow, IsStateOf, IsSound, network_of, KeepsState, asked_number, replied_number}
 use Rattle.mem_fabric.proofs.Sounds.{length-filtered, world_by, keeps, Steps, asked_elsewhere, replied_elsewhere, requests_left, replies_left}
-use Rattle.mem_fabric.proofs.DoubtLemmas.{elsewhere_doubts}
+use Rattle.mem_fabric.proofs.DoubtLemmas.{elsewhere_doubts, says_landed}
 use Rattle.mem_fabric.proofs.Worlds.{goes_to, AllowedOn, AllStill, same_cells, after_quiet}
 use Rattle.world_model.specs.declared.order.Order.{Order}
 use Rattle.world_model.specs.declared.order.Told.{Told}
@@ -293,3 +297,19 @@ steps_restarted s node ordered done past sound told_is =
 pub restarted_as : {ordered ordered' : Bool} {node node' : ℕ} {done done' : List ℕ} {before before' : List Called} → ordered ≡ ordered' → node ≡ node' → done ≡ done' → before ≡ before'
     → record { did = restart_did ordered node; steps = Step.Restart node done ∷ [] } ∷ before ≡ record { did = restart_did ordered' node'; steps = Step.Restart node' done' ∷ [] } ∷ before'
 restarted_as e f g h = cc
+
+-- it is told in which partitions what was in doubt has landed, as the replicas show it
+pub settles_by : {B D : Type 0} (tells : Type 0) (s s' : State) (nodes : NodesState B D) (node : ℕ) (ordered : Bool) (kept : List Doubt) → IsSound s
+    → (tells → ((p : ℕ) → IsWell (replica_at nodes node p)) → kept ≡ doubts_landed nodes node s.doubts)
+    → calls_of s'.past ≡ record { did = restart_did ordered node; steps = Step.Restart node (partitions_on node kept) ∷ [] } ∷ calls_of s.past
+    → s'.shape ≡ s.shape → s'.requests ≡ s.requests → s'.replies ≡ s.replies → s'.queue ≡ s.queue → Settles tells s nodes node ordered s'
+settles_by tells s s' nodes node ordered kept sound landed told_is shape requests replies queue = record {
+  done = partitions_on node kept;
+  network =
+      ap (λ calls. record (network_of s') { calls = calls }) told_is
+      ∙ ap (λ o. record { shape = o; calls = record { did = restart_did ordered node; steps = Step.Restart node (partitions_on node kept) ∷ [] } ∷ calls_of s.past; requests = map asked_number s'.requests; replies = map replied_number s'.replies; queue = s'.queue }) shape
+      ∙ ap (λ l. record { shape = s.shape; calls = record { did = restart_did ordered node; steps = Step.Restart node (partitions_on node kept) ∷ [] } ∷ calls_of s.past; requests = map asked_number l; replies = map replied_number s'.replies; queue = s'.queue }) requests
+      ∙ ap (λ l. record { shape = s.shape; calls = record { did = restart_did ordered node; steps = Step.Restart node (partitions_on node kept) ∷ [] } ∷ calls_of s.past; requests = map asked_number s.requests; replies = map replied_number l; queue = s'.queue }) replies
+      ∙ ap (λ l. record { shape = s.shape; calls = record { did = restart_did ordered node; steps = Step.Restart node (partitions_on node kept) ∷ [] } ∷ calls_of s.past; requests = map asked_number s.requests; replies = map replied_number s.replies; queue = l }) queue;
+  landed = λ t well p. ap (λ l. list_any (λ q. q == p) (partitions_on node l)) (landed t well) ∙ says_landed (told_world s.past).doubts node p (λ q. replica_at nodes node q) s.doubts sound.state.doubts;
+}

@@ -1,11 +1,13 @@
 //! What moves and orders do to the nodes, and to what is in flight.
 
-ghost use Rattle.std.specs.Prelude.{true, false, ◌≡◌, ◌≤◌, ℕ, Bool, List, cond, [], IfOk, IsSome, OnOk, OnErr};
+ghost use Rattle.std.specs.Prelude.{true, false, ◌≡◌, ◌≤◌, ℕ, Bool, List, cond, [], IfOk, IsSome, OnOk, OnErr, IsErrOf};
 ghost use Rattle.mem_fabric.specs.Acting.{told_of};
 ghost use Rattle.mem_fabric.specs.Causes.{FailsByItself, RestartFailed, RestartRefused};
 ghost use Rattle.mem_fabric.specs.Going.{AreNodesOf, GoesOn};
-ghost use Rattle.mem_fabric.specs.Network.{Does, MayRestart, Obeys, after_move, after_order, after_stop, halted, is_stopped, quiet, restarts, resumed, stops};
+ghost use Rattle.mem_fabric.specs.Network.{Does, MayRestart, Obeys, after_move, after_order, after_stop, halted, is_stopped, quiet, restarts, resumed, stops, told_as};
+ghost use Rattle.mem_fabric.specs.Past.{restart_did};
 ghost use Rattle.mem_fabric.specs.Sound.{is_among, network_of};
+ghost use Rattle.node_lab.specs.declared.fault.NodesFault.{NodesFault};
 ghost use Rattle.world_model.specs.declared.order.Order.{Order};
 ghost use Rattle.world_model.specs.declared.order.PullCause.{PullCause};
 ghost use Rattle.world_model.specs.declared.order.Refusal.{Refusal};
@@ -31,6 +33,35 @@ fn told_of(fault: NodesFault) -> Told
 }
 
 impl Cluster {
+    /// Opens the replicas of a stopped node, which then runs again, by an order or else by a move. Where they aren't opened it stays
+    /// stopped, and nothing is told.
+    fn reopen<B: Bays>(
+        &mut self,
+        nodes: &mut LabNodes<B>,
+        node: u32,
+        ordered: bool,
+    ) -> Result<(), NodesFault>
+    where
+        B::Disk: Drop,
+        requires stopped { is_stopped (network_of self.old) node ≡ true }
+        requires among { is_among self.old.stopped node ≡ true }
+        requires of { AreNodesOf self.old nodes.old }
+        requires open { IsSome self.old.shape }
+        ensures ok { OnOk result ((done : List ℕ) × (network_of self.new ≡ told_as (network_of self.old) (restart_did ordered node) (resumed (network_of self.old) node done))) }
+        ensures err { OnErr result (self.new ≡ self.old) }
+        ensures goes { GoesOn B.tells B.Disk.tells B.Disk.content B.home B.out B.same self.old nodes.old self.new nodes.new }
+        ensures failed { IsErrOf result NodesFault.Failed → RestartFailed B.tells B.Disk.tells B.Disk.content B.Disk.size B.faults B.Disk.faults B.home B.out node nodes.old nodes.new }
+        ensures of_node { (refusal : Refusal) → IsErrOf result (NodesFault.Refused refusal) → refusal.node ≡ node }
+        ensures refused { (refusal : Refusal) → IsErrOf result (NodesFault.Refused refusal) → RestartRefused B.tells B.Disk.tells B.Disk.content B.Disk.size B.faults B.Disk.faults B.home B.out node nodes.old refusal }
+        ensures never { (refusal : Refusal) → IsErrOf result (NodesFault.Refused refusal) → B.Disk.tells → ⊥ }
+        ensures later { B.faults nodes.old.bays ≤ B.faults nodes.new.bays }
+    {
+        let doubts = self.doubts()?;
+        nodes.restart(node)?;
+        self.restart(nodes, node, ordered, doubts);
+        Ok(())
+    }
+
     /// A stopped node runs again, by an order, unless its disks aren't opened.
     fn run_again<B: Bays>(&mut self, nodes: &mut LabNodes<B>, node: u32) -> Told
     where
@@ -47,11 +78,8 @@ impl Cluster {
         ensures later { B.faults nodes.old.bays ≤ B.faults nodes.new.bays }
         ensures goes { GoesOn B.tells B.Disk.tells B.Disk.content B.home B.out B.same self.old nodes.old self.new nodes.new }
     {
-        match nodes.restart(node) {
-            Ok(()) => {
-                self.restart(nodes, node, true);
-                Told::Done
-            }
+        match self.reopen(nodes, node, true) {
+            Ok(()) => Told::Done,
             Err(fault) => self.stay(Order::Restart(node), told_of(fault)),
         }
     }
@@ -153,11 +181,8 @@ impl Cluster {
         ensures network { (opened : Bool) × (done : List ℕ) × (network_of self.new ≡ after_move (network_of self.old) (cond opened (resumed (network_of self.old) node done) (quiet (network_of self.old).requests (network_of self.old).replies))) }
         ensures goes { GoesOn B.tells B.Disk.tells B.Disk.content B.home B.out B.same self.old nodes.old self.new nodes.new }
     {
-        match nodes.restart(node) {
-            Ok(()) => {
-                self.restart(nodes, node, false);
-                Event::Quiet
-            }
+        match self.reopen(nodes, node, false) {
+            Ok(()) => Event::Quiet,
             Err(_) => self.rest(),
         }
     }

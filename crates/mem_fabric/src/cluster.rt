@@ -15,7 +15,7 @@ ghost use Rattle.world_model.specs.declared.step.Did.{Did};
 ghost use Rattle.world_model.specs.Fabric.{Awaits};
 ghost use Rattle.world_model.specs.Shape.{IsShape};
 
-use crate::doubts::{Doubt, brought_by, drop_doubts, keep_landed, note_doubt};
+use crate::doubts::{Doubt, brought_by, copy_of, drop_doubts, keep_landed, note_doubt};
 use crate::flight::{
     Asked, Replied, add, drop_asked, drop_replied, is_among, place_among, push, silence, take_node,
     take_out,
@@ -250,24 +250,38 @@ impl Cluster {
         Ok(Told::Done)
     }
 
-    /// A stopped node whose replicas are open again runs again, by an order or else by a move: what was in doubt there is settled as they
-    /// show. It takes no memory.
-    pub fn restart<B: Bays>(&mut self, nodes: &LabNodes<B>, node: u32, ordered: bool)
+    /// What is in doubt at replicas whose disks failed.
+    pub fn doubts(&self) -> Result<Vec<Doubt>, Memory>
+        ensures { IfOk result (λ doubts. doubts.items ≡ self.now.doubts) }
+    {
+        copy_of(self.alloc, self.doubts.as_slice())
+    }
+
+    /// A stopped node whose replicas are open again runs again, by an order or else by a move: what was in doubt there, as it is handed
+    /// in, is settled as they show. It takes no memory.
+    pub fn restart<B: Bays>(
+        &mut self,
+        nodes: &LabNodes<B>,
+        node: u32,
+        ordered: bool,
+        doubts: Vec<Doubt>,
+    )
     where
         B::Disk: Drop,
-        requires { is_stopped (network_of self.old) node ≡ true }
+        requires { doubts.items ≡ self.old.doubts }
         ensures settles { Settles B.Disk.tells self.old nodes.now node ordered self.new }
         ensures nodes { RunsAgain self.old node self.new }
     {
+        let mut landed = doubts;
+        keep_landed(&mut landed, nodes, node);
         take_node(&mut self.stopped, node);
-        keep_landed(&mut self.doubts, nodes, node);
+        drop_doubts(&mut self.doubts, node);
         self.past = Past::Restarted(
             Snapshot::of(&self.past),
             Snapshot::of(&ordered),
             Snapshot::of(&node),
-            Snapshot::of(&self.doubts),
+            Snapshot::of(&landed),
         );
-        drop_doubts(&mut self.doubts, node);
     }
 
     /// An order comes to nothing, and is answered so.

@@ -1,15 +1,16 @@
 //! What is in doubt at replicas whose disks failed.
 
-ghost use Rattle.std.specs.Prelude.{◌≡◌, ◌<◌, ◌==◌, ℕ, not, cond, filter, vec_len, vec_capacity};
+ghost use Rattle.std.specs.Prelude.{◌≡◌, ◌<◌, ℕ, not, filter, vec_len, vec_capacity, IfOk};
 ghost use Rattle.cell_model.specs.Asks.{brought, id_of};
 ghost use Rattle.mem_fabric.specs.Doubts.{IsWell, brought_by, doubts_asked, doubts_elsewhere, doubts_landed, has_landed, is_doubt_at};
 ghost use Rattle.node_lab.specs.Nodes.{replica_at};
 
 use crate::flight::add;
-use blob_id::BlobId;
+use blob_id::{BlobId, Memory};
 use cell_model::{Ask, Cell, Reply};
 use disk_core::Bays;
 use node_lab::LabNodes;
+use std::alloc::Global;
 
 /// What an ask brought to a replica, as far as it takes to see whether it has landed.
 #[derive(Clone, Copy, Drop)]
@@ -28,6 +29,14 @@ pub struct Doubt {
     pub node: u32,
     pub partition: u16,
     pub brought: Brought,
+}
+
+/// A copy of what is in doubt.
+pub fn copy_of(alloc: Global, doubts: &[Doubt]) -> Result<Vec<Doubt>, Memory>
+    ensures { IfOk result (λ copy. copy.items ≡ doubts.now) }
+{
+    let copy = Vec::from_slice(alloc, doubts)?;
+    Ok(copy)
 }
 
 /// What an ask brings.
