@@ -54,7 +54,7 @@ module _ {B D : Type 0} (bays_tell disks_tell : Type 0) (content : D → Content
       → doubts ≡ doubts_asked s.doubts asked.node partition (brought_by (id_of ask) (brought ask)) reply
       → calls_of past ≡ record { did = Did.Delivered Event.Quiet; steps = run_step asked.number reply ∷ [] } ∷ calls_of s.past
       → Answered s (record s { requests = requests; replies = replies; answered = count; doubts = doubts; past = past }) place stays nodes nodes'
-  steps_answered s place stays asked correlation partition ask reply nodes nodes' requests replies doubts past count sound within here asks requested of open e so range more small left added doubted told_is =
+  steps_answered s place stays asked correlation partition ask reply nodes nodes' requests replies doubts past count sound within here asks requested of opened e so range more small left added doubted told_is =
       let found : slice_get s.requests place ≡ Some asked = slice_get_read s.requests (length s.requests) place asked refl within here in
       let same_request : asks.request ≡ asked = (let both : Some asks.request ≡ Some asked = sym asks.here ∙ found in cc) in
       let reads = reads_request asked.frame correlation partition ask (subst (λ (a : Asked). request_in a.frame ≡ Some (correlation, partition, ask)) same_request asks.reads) in
@@ -71,6 +71,6 @@ module _ {B D : Type 0} (bays_tell disks_tell : Type 0) (content : D → Content
         sound = steps.sound;
         runs = steps.runs;
         goes = goes_asked bays_tell disks_tell content home out same size faults s s' nodes nodes' asked.number (record { from = 0; node = asked.node; frame = Some reads.0 }) call reply
-            e of open (refl, refl) told_is as_sent.request as_sent.called (sound.state.stopped asked.node ∙ as_sent.running) as_sent.running so.asked so.up;
+            e of opened (refl, refl) told_is as_sent.request as_sent.called (sound.state.stopped asked.node ∙ as_sent.running) as_sent.running so.asked so.up;
         fails = fails_here disks_tell content size faults s s' nodes nodes' asked.number call reply told_is (ap call_of as_sent.request ∙ as_sent.called) so.fault;
       }

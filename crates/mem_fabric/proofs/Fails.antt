@@ -25,6 +25,16 @@ is_torn _ = false
 abbrev pub HasNoTorn : List Step → Type 0
 HasNoTorn steps = list_any is_torn steps ≡ false
 
+-- the steps of the newest call
+abbrev newest_steps : List Called → List Step
+newest_steps [] = []
+newest_steps (call ∷ before) = call.steps
+
+-- the request in which the first of these steps tells that a device failed
+abbrev torn_send : List Step → ℕ
+torn_send (Step.Torn send ∷ steps) = send
+torn_send _ = 0
+
 -- no list is longer than itself
 longer : (call : Called) (calls : List Called) → calls ≡ call ∷ calls → ⊥
 longer call calls e = let same : length calls ≡ suc (length calls) = ap length e in omega (arith, same)
@@ -33,7 +43,7 @@ module _ {B D : Type 0} (tells : Type 0) (content : D → Content) (size faults 
   -- a call that tells no such step
   pub fails_not : (s s' : State) (nodes nodes' : NodesState B D) (did : Did) (steps : List Step) → calls_of s'.past ≡ record { did = did; steps = steps } ∷ calls_of s.past → HasNoTorn steps → FailsByItself tells content size faults s nodes s' nodes'
   fails_not s s' nodes nodes' did steps told_is none = λ send e t.
-      absurd (let same : steps ≡ Step.Torn send ∷ [] = (let both : record { did = did; steps = steps } ∷ calls_of s.past ≡ record { did = Did.Delivered Event.Quiet; steps = Step.Torn send ∷ [] } ∷ calls_of s.past = sym told_is ∙ e in cc) in
+      absurd (let same : steps ≡ Step.Torn send ∷ [] = ap newest_steps (sym told_is ∙ e) in
       let torn : list_any is_torn steps ≡ true = ap (list_any is_torn) same in cc)
 
   pub fails_move : (s s' : State) (nodes nodes' : NodesState B D) (did : Did) (m : Moved) → network_of s' ≡ told_as (network_of s) did m → HasNoTorn m.steps → FailsByItself tells content size faults s nodes s' nodes'
@@ -52,7 +62,7 @@ module _ {B D : Type 0} (tells : Type 0) (content : D → Content) (size faults 
       go : (b : Bool) → is_fault reply ≡ b → calls_of s'.past ≡ record { did = Did.Delivered Event.Quiet; steps = cond b (Step.Torn send) (Step.Exec send reply) ∷ [] } ∷ calls_of s.past → FailsByItself tells content size faults s nodes s' nodes'
       go false calm told_is = fails_not s s' nodes nodes' (Did.Delivered Event.Quiet) (Step.Exec send reply ∷ []) told_is refl
       go true torn told_is = λ other e t.
-          let number : other ≡ send = (let both : record { did = Did.Delivered Event.Quiet; steps = Step.Torn send ∷ [] } ∷ calls_of s.past ≡ record { did = Did.Delivered Event.Quiet; steps = Step.Torn other ∷ [] } ∷ calls_of s.past = sym told_is ∙ e in cc) in
+          let number : other ≡ send = ap (λ l. torn_send (newest_steps l)) (sym e ∙ told_is) in
           (call, ap (λ k. call_at (told_world s.past) k) number ∙ asked, fault (fault_is reply torn) t)
 
 -- ---- moves that run no request

@@ -132,7 +132,7 @@ module _ {D : Type 0} (tells : Type 0) (content : D → Content) (size : D → �
   abbrev IsOwn : ReplicaSlot D → Type 0
   IsOwn slot = IsOutAs (is_some slot.replica) folder before slot.out
 
-  was_in : (open : Bool) (out : Option (List ℕ)) → IsOutAs open folder before out → out ≡ None → before ≡ None
+  was_in : (up : Bool) (out : Option (List ℕ)) → IsOutAs up folder before out → out ≡ None → before ≡ None
   was_in true out own e = own.0
   was_in false out own e = sym own ∙ e
 
@@ -168,15 +168,15 @@ keeps_itself s = λ opening. ((λ r. r), λ shape first. ((λ p. p), refl))
 
 -- nodes that are open are so for one shape and one folder
 open_for : {B D : Type 0} (s : State) (nodes : NodesState B D) (shape : Shape) (folder : List ℕ) → AreNodesOf s nodes → IsSome s.shape → IsFor shape folder nodes.shape nodes.folder → (nodes.shape ≡ Some shape) × (nodes.folder ≡ folder)
-open_for s nodes shape folder of open named = go nodes.shape refl named
+open_for s nodes shape folder of opened named = go nodes.shape refl named
   where
     go : (o : Option Shape) → nodes.shape ≡ o → IsFor shape folder o nodes.folder → (nodes.shape ≡ Some shape) × (nodes.folder ≡ folder)
     go None e named = absurd (let none : s.shape ≡ None = sym of.shape ∙ e in cc)
     go (Some found) e named = (e ∙ ap (λ x. Some x) named.0, named.1)
 
 -- nodes that are open are so for some shape
-shape_of : {B D : Type 0} (s : State) (nodes : NodesState B D) → AreNodesOf s nodes → IsSome s.shape → (shape : Shape) × (nodes.shape ≡ Some shape)
-shape_of s nodes of open = go nodes.shape refl
+pub shape_of : {B D : Type 0} (s : State) (nodes : NodesState B D) → AreNodesOf s nodes → IsSome s.shape → (shape : Shape) × (nodes.shape ≡ Some shape)
+shape_of s nodes of opened = go nodes.shape refl
   where
     go : (o : Option Shape) → nodes.shape ≡ o → (shape : Shape) × (nodes.shape ≡ Some shape)
     go None e = absurd (let none : s.shape ≡ None = sym of.shape ∙ e in cc)
@@ -245,10 +245,10 @@ module _ {B D : Type 0} (bays_tell disks_tell : Type 0) (content : D → Content
 
   pub goes_stopped : (size : D → ℕ) (known : disks_tell → bays_tell) (s s' : State) (nodes nodes' : NodesState B D) (node : ℕ) → KeepsState s s' → IsStopped s node s' → AreNodesOf s nodes → IsSome s.shape
       → ClosesNodes bays_tell disks_tell content size home out (λ n. n == node) true nodes nodes' → same nodes.bays nodes'.bays → Goes s nodes s' nodes'
-  goes_stopped size known s s' nodes nodes' node keeps stopped of open closes e = record {
+  goes_stopped size known s s' nodes nodes' node keeps stopped of opened closes e = record {
     of = nodes_stop s s' nodes nodes' node stopped closes.shape closes.replicas of;
     runs = λ shape folder. runs_at s s' nodes nodes' shape folder keeps (λ t places holds.
-        places_closed bays_tell disks_tell content size home out shape folder places nodes nodes' t known holds (open_for s nodes shape folder of open holds.named).0 (λ n. n == node) true closes);
+        places_closed bays_tell disks_tell content size home out shape folder places nodes nodes' t known holds (open_for s nodes shape folder of opened holds.named).0 (λ n. n == node) true closes);
     bays = record {
       same_bays = e;
       own = λ t before own n p. subst (λ f. IsOutAs (is_up nodes' n p) f (before n p) (out nodes'.bays n p)) (sym closes.same_folder)
@@ -259,14 +259,14 @@ module _ {B D : Type 0} (bays_tell disks_tell : Type 0) (content : D → Content
   -- a node that was to run again stays stopped
   pub goes_in_vain : (size : D → ℕ) (known : disks_tell → bays_tell) (s s' : State) (nodes nodes' : NodesState B D) (node : ℕ) → KeepsState s s' → SameNodes s s' → AreNodesOf s nodes → IsSome s.shape
       → ((shape : Shape) → nodes.shape ≡ Some shape → StayUnopened bays_tell disks_tell content size home out (is_of_node shape node) (settings_of shape) nodes.folder nodes nodes') → same nodes.bays nodes'.bays → Goes s nodes s' nodes'
-  goes_in_vain size known s s' nodes nodes' node keeps stays of open closed e =
-      let found = shape_of s nodes of open in
+  goes_in_vain size known s s' nodes nodes' node keeps stays of opened closed e =
+      let found = shape_of s nodes of opened in
       let closes = closed found.0 found.1 in
       let of' = nodes_stay s s' nodes stays of in
       record {
         of = record { shape = closes.shape ∙ of'.shape; up = λ n p. ap is_some (closes.replicas n p) ∙ of'.up n p };
         runs = λ shape folder. runs_at s s' nodes nodes' shape folder keeps (λ t places holds.
-            let is = open_for s nodes shape folder of open holds.named in
+            let is = open_for s nodes shape folder of opened holds.named in
             places_unopened bays_tell disks_tell content size home out shape folder places nodes nodes' t known holds (is_of_node shape node)
             (subst (λ f. StayUnopened bays_tell disks_tell content size home out (is_of_node shape node) (settings_of shape) f nodes nodes') is.1 (closed shape is.0)));
         bays = record {
@@ -294,17 +294,17 @@ module _ {B D : Type 0} (bays_tell disks_tell : Type 0) (content : D → Content
   pub goes_again : (size faults : D → ℕ) (known : disks_tell → bays_tell) (s s' : State) (nodes nodes' : NodesState B D) (node : ℕ) (ordered : Bool) → Settles disks_tell s nodes' node ordered s' → RunsAgain s node s' → AreNodesOf s nodes → IsSome s.shape
       → is_among s.stopped node ≡ true → is_stopped (network_of s) node ≡ true → (nodes'.shape ≡ nodes.shape) × (nodes'.folder ≡ nodes.folder)
       → ((shape : Shape) → nodes.shape ≡ Some shape → OpensNodes bays_tell disks_tell content size home out (is_of_node shape node) (settings_of shape) nodes.folder nodes nodes') → same nodes.bays nodes'.bays → Goes s nodes s' nodes'
-  goes_again size faults known s s' nodes nodes' node ordered settles again of open among stopped named opened e =
-      let found = shape_of s nodes of open in
-      let opens = opened found.0 found.1 in
+  goes_again size faults known s s' nodes nodes' node ordered settles again of opened among stopped named opens_for e =
+      let found = shape_of s nodes of opened in
+      let opens = opens_for found.0 found.1 in
       let told_is : calls_of s'.past ≡ record { did = restart_did ordered node; steps = Step.Restart node settles.done ∷ [] } ∷ calls_of s.past = ap (λ (n : Network). n.calls) settles.network in
       let none : (p : ℕ) → replica_at nodes node p ≡ None = λ p. none_there (replica_at nodes node p) (down s nodes node of among p) in
       record {
         of = nodes_restart s s' nodes nodes' node found.0 again named.0 of (sym of.shape ∙ found.1) among opens.up opens.others;
         runs = λ shape folder opening first leads t.
             let l = leads t in
-            let is = open_for s nodes shape folder of open l.holds.named in
-            let opens' : OpensNodes bays_tell disks_tell content size home out (is_of_node shape node) (settings_of shape) folder nodes nodes' = subst (λ f. OpensNodes bays_tell disks_tell content size home out (is_of_node shape node) (settings_of shape) f nodes nodes') is.1 (opened shape is.0) in
+            let is = open_for s nodes shape folder of opened l.holds.named in
+            let opens' : OpensNodes bays_tell disks_tell content size home out (is_of_node shape node) (settings_of shape) folder nodes nodes' = subst (λ f. OpensNodes bays_tell disks_tell content size home out (is_of_node shape node) (settings_of shape) f nodes nodes') is.1 (opens_for shape is.0) in
             let well : (p : ℕ) → IsWell (replica_at nodes' node p) =
             λ p. well_opened disks_tell content size (is_of_node shape node node p) (settings_of shape) folder (slot_at home out folder nodes node p) (slot_at home out folder nodes' node p) (opens'.slots (known t) node p) (none p) in
             let says : (p : ℕ) → list_any (λ q. q == p) settles.done ≡ landed_at ((world opening (told (calls_of s.past))).doubts node p) (replica_at nodes' node p) =
@@ -329,13 +329,13 @@ module _ {B D : Type 0} (bays_tell disks_tell : Type 0) (content : D → Content
       → calls_of s'.past ≡ record { did = Did.Delivered Event.Quiet; steps = run_step send reply ∷ [] } ∷ calls_of s.past
       → numbered (told_world s.past).sent send ≡ Some request → call_of (Some request) ≡ Some call → (told_world s.past).stopped call.node ≡ false → is_among s.stopped call.node ≡ false
       → AsksNodes disks_tell content size faults nodes call.node call.partition call.ask reply nodes' → ((n p : ℕ) → is_up nodes' n p ≡ is_up nodes n p) → Goes s nodes s' nodes'
-  goes_asked size faults s s' nodes nodes' send request call reply e of open stays told_is is called runs running asked up =
+  goes_asked size faults s s' nodes nodes' send request call reply e of opened stays told_is is called runs running asked up =
       let of' = nodes_stay s s' nodes stays of in
       record {
         of = record { shape = asked.shape ∙ of'.shape; up = λ n p. up n p ∙ of'.up n p };
         runs = λ shape folder opening first leads t.
             let l = leads t in
-            let shaped = open_for s nodes shape folder of open l.holds.named in
+            let shaped = open_for s nodes shape folder of opened l.holds.named in
             let due_up : has_replica shape call.node call.partition ≡ true → is_up nodes call.node call.partition ≡ true =
             λ due. up_as s nodes call.node call.partition of running ∙ ap (λ o. stands o call.node call.partition) (sym of.shape ∙ shaped.0) ∙ due in
             subst (λ (calls : List Called). LeadsTo content home shape folder opening first (told calls) nodes') (sym told_is)
@@ -350,3 +350,11 @@ module _ {B D : Type 0} (bays_tell disks_tell : Type 0) (content : D → Content
               (subst (λ (b : B). IsOutAs (is_up nodes n p) nodes.folder (before n p) (out b n p)) (sym asked.same_bays) (own n p)));
         };
       }
+
+-- a place of a node is one of that node
+pub node_is : (shape : Shape) (node n p : ℕ) → is_of_node shape node n p ≡ true → n ≡ node
+node_is shape node n p e = go (n == node) refl e
+  where
+    go : (b : Bool) → (n == node) ≡ b → (b && has_replica shape n p) ≡ true → n ≡ node
+    go true at e = number_true n node at
+    go false at e = absurd cc

@@ -3,5 +3,5 @@ use Rattle.mem_fabric.proofs.cluster.Cluster.halt_now.Goals as goal
 
 pub returns-clause-goes : goal.returns-clause-goes
 returns-clause-goes g c =
-    goes_stopped g.B.Bays.tells g.B.Disk.Disk.tells g.B.Disk.Disk.content g.B.Disk.Disk.faults g.B.Bays.home g.B.Bays.out g.B.Bays.same c.args.self.now c.halt.new.self c.args.nodes.now c.stop.new.self c.args.node c.in_ok-event.ensures.run c.in_ok-event.ensures.nodes c.requires.of
-    c.stop.ensures.named.0 c.stop.ensures.up c.stop.ensures.holds c.stop.ensures.layouts c.stop.ensures.same c.stop.ensures.out
+    goes_stopped g.B.Bays.tells g.B.Disk.Disk.tells g.B.Disk.Disk.content g.B.Bays.home g.B.Bays.out g.B.Bays.same g.B.Disk.Disk.size g.met.B.Bays.known c.args.self.now c.halt.new.self c.args.nodes.now c.stop.new.self c.args.node c.in_ok-event.ensures.run c.in_ok-event.ensures.nodes c.requires.of c.requires.open
+    c.stop.ensures.closes c.stop.ensures.same
