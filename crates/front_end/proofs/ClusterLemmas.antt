@@ -1,9 +1,9 @@
 -- What a run over a network leaves behind, from what its last calls left.
-use Rattle.std.proofs.Common.{◌≡◌, ◌⊎◌, ◌++◌, ◌∙◌, inl, inr, ℕ, List, [], Option, Some, sym, ap, subst, append_assoc}
+use Rattle.std.proofs.Common.{◌≡◌, ◌⊎◌, ◌++◌, ◌∙◌, inl, inr, ℕ, List, [], false, true, Option, Some, sym, ap, subst, append_assoc}
 use Rattle.std.proofs.lemmas.List.{append_cancel_left}
 use Rattle.mem_fabric.specs.Network.{Network, nothing}
-use Rattle.mem_fabric.specs.Played.{Act, AllMay, all_acted, moves_of, PlaysBy, Falls, IsPlayed}
-use Rattle.mem_fabric.specs.PlayedLaws.{falls_on}
+use Rattle.mem_fabric.specs.Played.{Act, AllMay, all_acted, moves_of, PlaysBy, Plays, IsPlayed}
+use Rattle.mem_fabric.specs.PlayedLaws.{plays_on}
 use Rattle.router_core.specs.Fits.{RouterView}
 use Rattle.router_core.specs.Stands.{Stands}
 use Rattle.router_core.specs.Ties.{Ties}
@@ -57,28 +57,28 @@ ran_cut shape disks router given given' calls status o safe same went run left i
 pub later : (leaves : List Called → Type 0) (given between given' : List Move) (begun now then : Network) (moves : List Move) (acts since : List Act) → begun ≡ nothing → between ≡ given ++ moves → PlaysBy acts given begun between now → PlaysBy since between now given' then
     → leaves then.calls → LeavesLater leaves (moves ++ moves_of since) now.calls
 later leaves given between given' begun now then moves acts since fresh gave before behind left =
-    let all = falls_on given begun between now given' then (acts, before) (since, behind) in
+    let all = plays_on given begun between now given' then false false (acts, (λ w. absurd cc), before) (since, (λ w. absurd cc), behind) in
     let more = acted_later now since in
     let calls : then.calls ≡ more.0 ++ now.calls = ap (λ (n : Network). n.calls) behind.network ∙ more.1 in
     record {
       since = more.0;
       acts = all.0;
-      may = subst (λ n. AllMay n all.0) fresh all.1.may;
-      took = append_cancel_left given (moves ++ moves_of since) (moves_of all.0) (sym (append_assoc given moves (moves_of since)) ∙ ap (λ (l : List Move). l ++ moves_of since) (sym gave) ∙ sym behind.moves ∙ all.1.moves);
-      told = sym calls ∙ ap (λ (n : Network). n.calls) all.1.network ∙ ap (λ n. (all_acted n all.0).calls) fresh;
+      may = subst (λ n. AllMay n all.0) fresh all.2.may;
+      took = append_cancel_left given (moves ++ moves_of since) (moves_of all.0) (sym (append_assoc given moves (moves_of since)) ∙ ap (λ (l : List Move). l ++ moves_of since) (sym gave) ∙ sym behind.moves ∙ all.2.moves);
+      told = sym calls ∙ ap (λ (n : Network). n.calls) all.2.network ∙ ap (λ n. (all_acted n all.0).calls) fresh;
       left = subst leaves calls left;
     }
 
 pub ran_starved : (shape : Shape) (disks : Disks) (router : RouterView) (given between given' : List Move) (begun now then : Network) (words : Option (ℕ → ℕ)) (status : ℕ) (o : Outside) → RunsAreSafe → router.shape ≡ shape → Went shape given between now.calls
-    → RunsOnDisks disks now.calls → begun ≡ nothing → Falls given begun between now → Falls between now given' then → disks.leaves then.calls → status ≡ 6 → HasStopped shape (ties_of router (Some now.calls)) o words → HasRun shape disks given given' status o
+    → RunsOnDisks disks now.calls → begun ≡ nothing → Plays given begun between now true → Plays between now given' then false → disks.leaves then.calls → status ≡ 6 → HasStopped shape (ties_of router (Some now.calls)) o words → HasRun shape disks given given' status o
 ran_starved shape disks router given between given' begun now then words status o safe same went run fresh before behind left is h =
-    let stays = later disks.leaves given between given' begun now then went.0 before.0 behind.0 fresh went.1 before.1 behind.1 left in
+    let stays = later disks.leaves given between given' begun now then went.0 before.0 behind.0 fresh went.1 before.2 behind.2 left in
     inr (inl (
       is,
       record {
         moves = went.0;
         since = moves_of behind.0;
-        gave = behind.1.moves ∙ ap (λ (l : List Move). l ++ moves_of behind.0) went.1 ∙ append_assoc given went.0 (moves_of behind.0);
+        gave = behind.2.moves ∙ ap (λ (l : List Move). l ++ moves_of behind.0) went.1 ∙ append_assoc given went.0 (moves_of behind.0);
         words = words;
         stopped = stopped_map _ _ _ o words (λ marks w. recorded shape disks.opens (LeavesLater disks.leaves (went.0 ++ moves_of behind.0)) router went.0 now.calls marks safe same went.2 run stays w) h;
       },

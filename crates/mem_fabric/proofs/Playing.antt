@@ -23,6 +23,10 @@ use Rattle.world_model.specs.Record.{Marked, Drawn, Aimed, Took, Given, Withheld
 use Rattle.world_model.specs.Told.{orders_told, told, AllNetwork}
 use Rattle.world_model.specs.World.{Made, nothing_held, world}
 
+-- nothing was done
+pub plays_none : (given given' : List Move) (s s' : State) (whole : Bool) → given' ≡ given → s' ≡ s → Plays given (network_of s) given' (network_of s') whole
+plays_none given given' s s' whole none same = ([], (λ w. tt), record { moves = none ∙ sym (append-nil given); may = tt; network = ap network_of same })
+
 pub plays_open : (given : List Move) (s s' : State) (shape : Shape) → s ≡ fresh_state → network_of s' ≡ after_open (network_of s) shape → Plays given (network_of s) given (network_of s') true
 plays_open given s s' shape fresh e = (Opens shape ∷ [], (λ w. tt), record { moves = sym (append-nil given); may = (tt, ap network_of fresh); network = e })
 

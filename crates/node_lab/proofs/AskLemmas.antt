@@ -1,5 +1,5 @@
 -- What an ask does to a place.
-use Rattle.std.proofs.Common.{◌≡◌, ◌≢◌, ◌⊎◌, inl, inr, ⊎_elim, ℕ, ◌+◌, Bool, true, false, cond, if◌then◌else◌, Option, Some, None, refl, sym, ◌∙◌, ap, subst}
+use Rattle.std.proofs.Common.{◌≡◌, ◌≢◌, inl, inr, ⊎_elim, ℕ, ◌+◌, Bool, true, false, cond, if◌then◌else◌, Option, Some, None, refl, sym, ◌∙◌, ap, subst}
 use Rattle.std.specs.Prelude.{IsSome, bytes_eq}
 use Rattle.std.specs.Option.{is_some, option_map}
 use Rattle.std.proofs.lemmas.List.Elements.{All-weaker}
@@ -26,8 +26,8 @@ use Rattle.world_model.specs.World.{Change, MayReply, arriving_change, same_id}
 use Rattle.world_model.proofs.CellLaws.{same_id_true}
 use Rattle.node_lab.specs.Replicas.{AllRepresentEither, LogHasLayout, HoldsOpen, HoldsPlace, HoldsUp, PlaceHasLayout, RepresentsEither, settled}
 use Rattle.node_lab.specs.Calls.{AsksReplica}
-use Rattle.node_lab.specs.Places.{AnswersBy, HoldsHere, IsPackedBy, KnowsLayout, Place, asked_place, is_fault, landed_cells}
-use Rattle.node_lab.proofs.ReplicaLemmas.{same_stands, settled_sure}
+use Rattle.node_lab.specs.Places.{AnswersBy, HoldsHere, KnowsLayout, Place, asked_place, is_fault, landed_cells}
+use Rattle.node_lab.proofs.ReplicaLemmas.{same_stands}
 
 -- a replica that is down refuses any ask
 down_refuses : (ask : Ask) → IsRefusal ask Reply.Down
@@ -242,7 +242,7 @@ module _ {D : Type 0} (tells : Type 0) (content : D → Content) (size faults : 
         subst (λ (b : Bool). HoldsOpen content settings b after place.cells doubt) (sym down) (
           refl,
           either_named content settings (content after.log.disk) (cell_in replica.cells) place.cells doubt (λ id. sym (up.held id))
-          (fault_stands settings replica after place.cells asked t is (record { sure = refl; named = up.named; held = up.held })),
+              (fault_stands settings replica after place.cells asked t is (record { sure = refl; named = up.named; held = up.held })),
         )
 
     -- after a fault it is down
@@ -258,7 +258,7 @@ module _ {D : Type 0} (tells : Type 0) (content : D → Content) (size faults : 
       → HoldsHere content settings slot home place → HoldsHere content settings slot home (asked_place settings ask reply place)
   unlanded settings slot home place calm none stays holds =
       subst (λ (b : Bool). HoldsHere content settings slot home (cond b (record { cells = place.cells; doubt = Some (record { id = id_of ask; cell = brought ask }); layout = None })
-        (record { cells = landed_cells place.cells ask reply; doubt = place.doubt; layout = option_map (λ layout. packed_by settings layout (place.cells (id_of ask)) ask reply) place.layout }))) (sym calm)
+      (record { cells = landed_cells place.cells ask reply; doubt = place.doubt; layout = option_map (λ layout. packed_by settings layout (place.cells (id_of ask)) ask reply) place.layout }))) (sym calm)
       (record {
         cells = place_same content settings slot home place.cells (landed_cells place.cells ask reply) place.doubt (λ id. nothing_landed place.cells ask reply id none) holds.cells;
         layout = known place.layout holds.layout;
@@ -286,11 +286,11 @@ module _ {D : Type 0} (tells : Type 0) (content : D → Content) (size faults : 
       go false is up true fault =
           let down = fault_down settings replica after home place asked t is up reply (is_fault_true reply fault) asked.down in
           subst (λ (b : Bool). HoldsHere content settings (Some after) home (cond b (record { cells = place.cells; doubt = Some (record { id = id_of ask; cell = brought ask }); layout = None })
-            (record { cells = landed_cells place.cells ask reply; doubt = place.doubt; layout = option_map (λ layout. packed_by settings layout (place.cells (id_of ask)) ask reply) place.layout }))) (sym fault)
+          (record { cells = landed_cells place.cells ask reply; doubt = place.doubt; layout = option_map (λ layout. packed_by settings layout (place.cells (id_of ask)) ask reply) place.layout }))) (sym fault)
           (record { cells = fault_cells settings replica after home place asked t is up down; layout = tt })
       go false is up false fault =
           subst (λ (b : Bool). HoldsHere content settings (Some after) home (cond b (record { cells = place.cells; doubt = Some (record { id = id_of ask; cell = brought ask }); layout = None })
-            (record { cells = landed_cells place.cells ask reply; doubt = place.doubt; layout = option_map (λ layout. packed_by settings layout (place.cells (id_of ask)) ask reply) place.layout }))) (sym fault)
+          (record { cells = landed_cells place.cells ask reply; doubt = place.doubt; layout = option_map (λ layout. packed_by settings layout (place.cells (id_of ask)) ask reply) place.layout }))) (sym fault)
           (record {
             cells = calm_cells settings replica after home place asked t is up (is_fault_not fault);
             layout = known place.layout holds.layout;

@@ -1,5 +1,5 @@
 -- Counts of faults over two calls.
-use Rattle.std.proofs.Common.{ℕ, ◌+◌, ◌-◌, ◌^◌, ◌≤◌, arith}
+use Rattle.std.proofs.Common.{ℕ, ◌≤◌, arith}
 use Rattle.outside.specs.Causes.{Rose}
 
 -- a count that rose in the second call rose in both

@@ -14,3 +14,11 @@ pub mod StopLemmas
 pub mod PortWalkLemmas
 pub mod HostLemmas
 pub mod CountLemmas
+pub mod NodeOpenLemmas
+pub mod NodeListLemmas
+pub mod NodeWalkLemmas
+pub mod NodeCloseLemmas
+pub mod OpenNodesLemmas
+pub mod CloseLemmas
+pub mod ReopenLemmas
+pub mod OutLemmas

@@ -1,7 +1,6 @@
 -- How an ask reaches the replica of a node.
 use Rattle.std.proofs.Common.{◌≡◌, ◌≢◌, ◌⊎◌, inl, inr, ⊎_elim, ℕ, zero, suc, ◌+◌, ◌<◌, ◌==◌, ◌&&◌, arith, Bool, true, false, cond, List, [], ◌∷◌, length, slice_set, Option, Some, None, refl, sym, ◌∙◌, ap, subst}
 use Rattle.std.specs.List.{slice_get}
-use Rattle.std.specs.Prelude.{IsSome}
 use Rattle.std.specs.Option.{is_some}
 use Rattle.std.proofs.lemmas.Bool.{cases_eq}
 use Rattle.cell_model.specs.declared.ask.Ask.{Ask}
@@ -16,12 +15,10 @@ use Rattle.node_core.specs.Nodes.{FoundAsked, Node, NodeAsked}
 use Rattle.node_core.specs.Ports.{port_in, with_port}
 use Rattle.node_core.proofs.PortLemmas.{other_found}
 use Rattle.node_lab.specs.declared.state.NodeState.{NodeState}
-use Rattle.node_lab.specs.declared.state.NodeState.TheVariants.{Up, Stopped}
 use Rattle.node_lab.specs.Replicas.{settings_of}
 use Rattle.node_lab.specs.Nodes.{Holds, HoldsSome, IsFor, IsOpen, NodesState, asked_places, has_replica, is_up, ports_at, ports_of, replica_at}
 use Rattle.node_lab.specs.Calls.{AsksNodes, AsksPorts, AsksReplica, FailedIn}
-use Rattle.node_lab.specs.Places.{HoldsAt, HoldsHere, IsBlank, Place, Places, asked_place}
-use Rattle.node_lab.specs.Places.{AnswersBy}
+use Rattle.node_lab.specs.Places.{AnswersBy, HoldsAt, IsBlank, Place, Places, asked_place}
 use Rattle.node_lab.proofs.AskLemmas.{absent_either, ask_answers, ask_holds, never_none}
 use Rattle.part_log.specs.Log.{disk_size}
 use Rattle.replica_core.specs.State.{IsAsked, ReplicaState}

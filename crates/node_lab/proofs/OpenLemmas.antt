@@ -1,22 +1,21 @@
 -- How the replica of a place is opened, or isn't.
-use Rattle.std.proofs.Common.{◌≡◌, ℕ, List, Option, Some, None, refl, sym, ◌∙◌, ap, subst}
+use Rattle.std.proofs.Common.{◌≡◌, ℕ, List, Option, Some, None, refl, sym, ◌∙◌, subst}
 use Rattle.blob_id.specs.declared.id.BlobId.{BlobId}
 use Rattle.cell_model.specs.declared.cell.Cell.{Cell}
 use Rattle.disk_core.specs.Content.{Content, ChangesBy}
 use Rattle.disk_core.specs.Homes.{Home, Out, OthersStay, PutsHome, Stays, TakesOut}
-use Rattle.gate_slots.specs.Cell.{cell_at}
 use Rattle.log_manifest.specs.declared.manifest.LogSettings.{LogSettings}
 use Rattle.part_log.specs.declared.fault.OpenFault.{OpenFault}
 use Rattle.part_log.specs.Images.{IsDamaged, IsLaidOut, NamesOther, OpensLog}
 use Rattle.part_log.specs.Log.{disk_size}
 use Rattle.replica_core.specs.State.{ReplicaState}
 use Rattle.world_model.specs.World.{Change}
-use Rattle.node_lab.specs.Replicas.{AllRepresentEither, HoldsPlace, IsOpened, PlaceHasLayout, found}
+use Rattle.node_lab.specs.Replicas.{AllRepresentEither, HoldsPlace, IsOpened, found}
 use Rattle.world_model.specs.declared.order.Refusal.{Refusal}
 use Rattle.world_model.specs.declared.order.What.{What}
 use Rattle.node_lab.specs.declared.fault.NodesFault.{NodesFault}
 use Rattle.node_lab.specs.Faults.{open_fault}
-use Rattle.node_lab.specs.Slots.{FailedAt, IsCause, OpensSlot, ReplicaSlot, StaysClosed}
+use Rattle.node_lab.specs.Slots.{IsCause, OpensSlot, StaysClosed}
 use Rattle.node_lab.proofs.ReplicaLemmas.{either_new, either_opened, either_same, image_back}
 use Rattle.node_lab.proofs.LayoutLemmas.{place_laid}
 use Rattle.node_lab.proofs.SlotLemmas.{same_slot, stays_same}

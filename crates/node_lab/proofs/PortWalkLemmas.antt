@@ -1,5 +1,5 @@
 -- The replicas of a node are opened one by one.
-use Rattle.std.proofs.Common.{◌≡◌, ◌≢◌, ◌⊎◌, inl, inr, ⊎_elim, ℕ, zero, suc, ◌+◌, ◌<◌, ◌≤◌, ◌^◌, ◌==◌, ◌&&◌, nat_eq, arith, Bool, true, false, cond, List, [], ◌∷◌, ◌++◌, length, Option, Some, None, refl, sym, ◌∙◌, ap, subst}
+use Rattle.std.proofs.Common.{◌≡◌, ◌≢◌, inl, inr, ⊎_elim, ℕ, zero, suc, ◌+◌, ◌<◌, ◌≤◌, ◌^◌, ◌==◌, ◌&&◌, nat_eq, arith, Bool, true, false, cond, List, [], ◌∷◌, ◌++◌, Option, Some, None, refl, sym, ◌∙◌, ap, subst}
 use Rattle.std.specs.List.{All, AllByRecursion, IsDistinct}
 use Rattle.std.specs.Map.{keys_of, values_of}
 use Rattle.std.specs.Option.{is_some}
@@ -17,7 +17,7 @@ use Rattle.world_model.specs.Shape.{replica_of}
 use Rattle.world_model.proofs.CellLaws.{number_true, same_number}
 use Rattle.node_lab.specs.Nodes.{has_replica, is_of_node}
 use Rattle.node_lab.specs.Openings.{AddsPort, NodeFailed, OpensPort, OpensPorts}
-use Rattle.node_lab.specs.Refusals.{CanOpen, IsEarlier, IsFirst}
+use Rattle.node_lab.specs.Refusals.{CanOpen, IsFirst}
 use Rattle.node_lab.specs.Slots.{FailedAt, IsCause, OpensAs, OpensWhere, OtherNodesStay, ReplicaSlot, StaysClosed, StaysClosedWhere, slot_in}
 use Rattle.node_lab.proofs.SlotLemmas.{opens_as, same_slot, stays_where}
 use Rattle.node_lab.proofs.StopLemmas.{not_same}

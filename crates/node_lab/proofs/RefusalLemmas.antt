@@ -1,21 +1,19 @@
 -- A place that was opened once isn't refused.
-use Rattle.std.proofs.Common.{◌≡◌, ℕ, ◌==◌, ◌&&◌, Bool, true, false, List, [], Option, Some, None, refl, sym, ◌∙◌, ap, subst}
+use Rattle.std.proofs.Common.{◌≡◌, ℕ, ◌==◌, ◌&&◌, Bool, true, false, List, [], Option, Some, None, sym, ◌∙◌, subst}
 use Rattle.disk_core.specs.Content.{Content}
-use Rattle.disk_core.specs.Homes.{HasOtherSize, Home, Out}
+use Rattle.disk_core.specs.Homes.{Home, Out}
 use Rattle.node_core.specs.Ports.{port_in}
 use Rattle.log_manifest.specs.declared.manifest.LogSettings.{LogSettings}
-use Rattle.part_log.specs.Log.{disk_size}
-use Rattle.replica_core.specs.Maps.{StandsForCells}
 use Rattle.replica_core.specs.State.{ReplicaState}
 use Rattle.world_model.specs.declared.order.Refusal.{Refusal}
 use Rattle.world_model.specs.declared.order.What.{What}
 use Rattle.world_model.specs.declared.shape.Shape.{Shape}
 use Rattle.node_lab.specs.declared.state.NodeState.{NodeState}
-use Rattle.node_lab.specs.Replicas.{HoldsPlace, found, settled, settings_of}
+use Rattle.node_lab.specs.Replicas.{found, settings_of}
 use Rattle.node_lab.specs.Nodes.{HoldsSome, IsOpen, has_replica, is_of_node, ports_at}
 use Rattle.node_lab.specs.Refusals.{IsFirst}
 use Rattle.node_lab.specs.Slots.{IsCause}
-use Rattle.node_lab.proofs.FreshLemmas.{empty_cells, new_stands}
+use Rattle.node_lab.proofs.FreshLemmas.{new_stands}
 use Rattle.part_log.proofs.Damage.{names_its_own, undamaged}
 
 module _ {D : Type 0} (tells : Type 0) (content : D → Content) (size : D → ℕ) (settings : LogSettings) where

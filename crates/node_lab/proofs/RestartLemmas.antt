@@ -1,6 +1,5 @@
 -- What stops and restarts do to the places.
-use Rattle.std.proofs.Common.{◌≡◌, ◌≢◌, ℕ, zero, suc, Bool, true, false, ◌==◌, ◌&&◌, cond, List, Option, Some, None, refl, sym, ◌∙◌, ap, subst}
-use Rattle.std.specs.Option.{is_some}
+use Rattle.std.proofs.Common.{◌≡◌, ℕ, zero, suc, Bool, true, false, ◌&&◌, cond, List, Option, Some, None, refl, sym, ◌∙◌, ap, subst}
 use Rattle.disk_core.specs.Content.{Content}
 use Rattle.disk_core.specs.Homes.{Home, Out}
 use Rattle.log_manifest.specs.declared.manifest.LogSettings.{LogSettings}
@@ -9,13 +8,12 @@ use Rattle.replica_core.specs.State.{ReplicaState}
 use Rattle.world_model.specs.declared.shape.Shape.{Shape}
 use Rattle.cell_model.specs.Cells.{join}
 use Rattle.world_model.specs.World.{Change, arriving_change}
-use Rattle.node_lab.specs.Replicas.{HoldsOpen, HoldsPlace, PlaceHasLayout, settings_of}
+use Rattle.node_lab.specs.Replicas.{settings_of}
 use Rattle.node_lab.specs.Nodes.{Holds, HomeHolds, IsFor, NodesState, never_opened, has_replica, replica_at, settled_places, slot_at}
 use Rattle.node_lab.specs.Places.{HoldsAt, HoldsHere, IsBlank, KnowsLayout, Place, Places, landed_at, settled_place}
 use Rattle.node_lab.specs.Calls.{ClosesNodes, OpensNodes, StayUnopened}
-use Rattle.node_lab.specs.Slots.{GoesHome, ClosesWhere, Keeps, KeepsLayout, OpensSlot, ReplicaSlot, OpensWhere, StaysClosed, StaysClosedWhere}
+use Rattle.node_lab.specs.Slots.{GoesHome, ClosesWhere, KeepsLayout, ReplicaSlot, OpensWhere, StaysClosedWhere}
 use Rattle.replica_core.proofs.Maps.{join_absent}
-use Rattle.world_model.proofs.CellLaws.{number_true}
 use Rattle.node_lab.proofs.SettleLemmas.{opening_settles}
 
 module _ {D : Type 0} (tells : Type 0) (content : D → Content) (size : D → ℕ) (settings : LogSettings) where

@@ -1,11 +1,9 @@
 -- Asks, stops and restarts lead a record on.
-use Rattle.std.proofs.Common.{◌≡◌, ◌≢◌, ◌⊎◌, inl, inr, ⊎_elim, ℕ, Bool, true, false, ◌==◌, ◌&&◌, cond, List, [], ◌∷◌, Option, Some, None, refl, sym, ◌∙◌, ap, subst}
+use Rattle.std.proofs.Common.{◌≡◌, ◌≢◌, inr, ℕ, Bool, true, false, ◌==◌, ◌&&◌, cond, List, ◌∷◌, Option, Some, None, refl, sym, ◌∙◌, ap, subst}
 use Rattle.std.specs.List.{list_any}
 use Rattle.std.specs.Option.{is_some, option_map}
 use Rattle.blob_id.specs.declared.id.BlobId.{BlobId}
-use Rattle.cell_model.specs.declared.ask.Ask.{Ask}
 use Rattle.cell_model.specs.declared.ask.Reply.{Reply}
-use Rattle.cell_model.specs.declared.cell.Cell.{Cell}
 use Rattle.cell_model.specs.declared.cell.Cell.TheVariants.{Absent}
 use Rattle.cell_model.specs.Asks.{brought, id_of, landed}
 use Rattle.cell_model.specs.Cells.{join}
@@ -19,13 +17,12 @@ use Rattle.replica_core.proofs.Maps.{join_absent}
 use Rattle.world_model.specs.declared.shape.Shape.{Shape}
 use Rattle.world_model.specs.declared.step.Step.TheVariants as steps
 use Rattle.world_model.specs.Record.{Item, Record, Took}
-use Rattle.world_model.specs.World.{Call, Cells, Change, MayReply, MayRun, MayTear, Run, World, after, arriving_call, arriving_change, call_at, doubt_call, is_call_at, same_id, world}
-use Rattle.node_lab.specs.Places.{AnswersBy}
+use Rattle.world_model.specs.World.{Call, Cells, Change, MayReply, MayRun, MayTear, World, after, arriving_call, arriving_change, call_at, doubt_call, is_call_at, same_id, world}
+use Rattle.node_lab.specs.Places.{AnswersBy, HoldsAt, KnowsLayout, Place, Places, is_fault, landed_at, landed_cells, settled_place}
 use Rattle.node_lab.specs.Replicas.{HoldsPlace, settings_of}
-use Rattle.node_lab.specs.RunPlaces.{AllPacked, IsCallPacked, Known, LeadsTo, called_layouts, item_layouts, layouts_after, places_after, places_of}
+use Rattle.node_lab.specs.RunPlaces.{IsCallPacked, Known, LeadsTo, called_layouts, item_layouts, layouts_after, places_after, places_of}
 use Rattle.node_lab.specs.Nodes.{Holds, NodesState, asked_places, has_replica, is_up, replica_at, settled_places}
 use Rattle.node_lab.specs.Calls.{AsksNodes, AsksReplica}
-use Rattle.node_lab.specs.Places.{HoldsAt, KnowsLayout, Place, Places, asked_place, is_fault, landed_at, landed_cells, settled_place}
 use Rattle.world_model.proofs.CellLaws.{number_true}
 use Rattle.node_lab.proofs.AskLemmas.{is_fault_true, place_same}
 use Rattle.node_lab.proofs.NodeAskLemmas.{place_answers, places_asked}

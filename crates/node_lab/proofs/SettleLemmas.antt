@@ -1,6 +1,5 @@
 -- What an opening settles: a change in doubt took effect or not, as the cells show.
-use Rattle.std.proofs.Common.{◌≡◌, ℕ, List, Bool, true, false, Option, Some, None, refl, sym, ◌∙◌, ap, subst, ⊎_elim}
-use Rattle.std.proofs.lemmas.Bool.{cases_Bool}
+use Rattle.std.proofs.Common.{◌≡◌, Bool, true, false, Option, Some, None, refl, sym, ◌∙◌, ap, subst}
 use Rattle.blob_id.specs.declared.id.BlobId.{BlobId}
 use Rattle.cell_model.specs.declared.cell.Cell.{Cell}
 use Rattle.cell_model.specs.declared.cell.Cell.TheVariants.{Absent, Held, Gone}
@@ -12,7 +11,7 @@ use Rattle.replica_core.specs.State.{ReplicaState}
 use Rattle.replica_core.proofs.Maps.{join_absent}
 use Rattle.world_model.specs.World.{Change, arriving_change, same_id}
 use Rattle.world_model.proofs.CellLaws.{same_id_true, same_id_self}
-use Rattle.node_lab.specs.Replicas.{HoldsOpen, HoldsUp, IsOpened, joined, settled}
+use Rattle.node_lab.specs.Replicas.{HoldsOpen, IsOpened, settled}
 use Rattle.node_lab.specs.Places.{HoldsHere, KnowsLayout, Place, has_brought, has_change, settled_place}
 use Rattle.node_lab.proofs.ReplicaLemmas.{held_up, opened_settles}
 use Rattle.node_lab.proofs.LayoutLemmas.{opened_log}

@@ -17,7 +17,7 @@ use Rattle.node_lab.specs.Slots.{GoesHome, HasLogSize, OpensAs, OpensSlot, Opens
 use Rattle.node_lab.proofs.ReplicaLemmas.{either_settled, image_back, opened_settles, place_kept}
 use Rattle.node_lab.proofs.LayoutLemmas.{opened_log, place_laid}
 
-abbrev slot_with : {D : Type 0} → Option (ReplicaState D) → Option D → Option (List ℕ) → ReplicaSlot D
+abbrev pub slot_with : {D : Type 0} → Option (ReplicaState D) → Option D → Option (List ℕ) → ReplicaSlot D
 slot_with slot home out = record { replica = slot; home = home; out = out }
 
 pub same_slot : {D : Type 0} (slot new_slot : Option (ReplicaState D)) (home new_home : Option D) (out new_out : Option (List ℕ)) → new_slot ≡ slot → new_home ≡ home → new_out ≡ out

@@ -1,5 +1,5 @@
 -- A node is stopped: its disks go home, and all other nodes stay.
-use Rattle.std.proofs.Common.{◌≡◌, ◌≢◌, ◌⊎◌, inl, inr, ⊎_elim, ℕ, zero, suc, ◌+◌, ◌<◌, ◌==◌, arith, Bool, true, false, cond, List, [], ◌∷◌, length, slice_set, Option, Some, None, refl, sym, ◌∙◌, ap, subst}
+use Rattle.std.proofs.Common.{◌≡◌, ◌≢◌, inl, inr, ℕ, zero, suc, ◌+◌, ◌<◌, ◌==◌, arith, Bool, true, false, cond, List, [], length, slice_set, Option, Some, None, refl, sym, ◌∙◌, ap, subst}
 use Rattle.std.specs.List.{slice_get}
 use Rattle.std.specs.Prelude.{IsSome}
 use Rattle.std.proofs.lemmas.Bool.{cases_eq}
@@ -12,11 +12,10 @@ use Rattle.replica_core.specs.State.{ReplicaState}
 use Rattle.world_model.specs.declared.shape.Shape.{Shape}
 use Rattle.world_model.proofs.CellLaws.{number_true, same_number}
 use Rattle.node_lab.specs.declared.state.NodeState.{NodeState}
-use Rattle.node_lab.specs.Replicas.{HoldsPlace, settings_of}
-use Rattle.node_lab.specs.Nodes.{HoldsSome, IsOpen, NodesState, has_replica, ports_at, ports_of, replica_at, slot_at}
-use Rattle.node_lab.specs.Calls.{ClosesNodes, PortsOut}
-use Rattle.node_lab.specs.Slots.{OtherNodesStay}
-use Rattle.node_lab.specs.Slots.{GoesHome, ClosesWhere, Keeps, OtherFoldersStay, ReplicaSlot, WentHome}
+use Rattle.node_lab.specs.Replicas.{settings_of}
+use Rattle.node_lab.specs.Nodes.{HoldsSome, IsOpen, NodesState, ports_of, replica_at, slot_at}
+use Rattle.node_lab.specs.Calls.{ClosesNodes}
+use Rattle.node_lab.specs.Slots.{ClosesWhere, GoesHome, OtherNodesStay, ReplicaSlot}
 use Rattle.node_lab.proofs.NodeAskLemmas.{ports_other, ports_set}
 use Rattle.node_lab.proofs.SlotLemmas.{same_slot}
 
@@ -30,11 +29,30 @@ not_same n node other = go (n == node) refl
     go true is = absurd (other (number_true n node is))
     go false is = is
 
+-- what was held by a place that is closed is held on
+pub some_on : {D : Type 0} (tells : Type 0) (content : D → Content) (size : D → ℕ) (stops : Bool) (settings : LogSettings) (old new : ReplicaSlot D) → tells → GoesHome tells content size stops old.replica old new → HoldsSome content size settings old.replica old.home → HoldsSome content size settings new.replica new.home
+some_on {D} tells content size stops settings old new t goes some = go old.replica refl goes
+  where
+    go : (o : Option (ReplicaState D)) → old.replica ≡ o → GoesHome tells content size stops o old new → HoldsSome content size settings new.replica new.home
+    go None none same = subst (λ (s : ReplicaSlot D). HoldsSome content size settings s.replica s.home) (sym same) some
+    go (Some replica) has goes =
+        let went = goes.0 in
+        record {
+          cells = some.cells;
+          doubt = some.doubt;
+          holds = (goes.1 t settings).0 some.cells some.doubt some.holds;
+          open_size = λ r at. absurd (let no : ◌≡◌ {A = Option (ReplicaState D)} None (Some r) = sym (ap (λ (s : ReplicaSlot D). s.replica) went.is) ∙ at in cc);
+          home_size = λ disk at.
+              let both : ◌≡◌ {A = Option D} (Some went.kept) (Some disk) = sym (ap (λ (s : ReplicaSlot D). s.home) went.is) ∙ at in
+              let same : went.kept ≡ disk = cc both in
+              subst (λ (d : D). size d ≡ disk_size settings) same (went.bytes ∙ some.open_size replica has);
+        }
+
 module _ {B D : Type 0} (bays_tell tells : Type 0) (content : D → Content) (size : D → ℕ) (home : B → Home D) (out : B → Out) (stops : Bool) (shape : Option Shape) (folder : List ℕ) (bays new_bays : B) (nodes : List (NodeState (ReplicaState D))) (node place : ℕ) (x : NodeState (ReplicaState D))
     (is : node ≡ place + 1) (within : place < length nodes) (gone : ports_of (Some x) ≡ [])
     (slots : bays_tell → (p : ℕ) → GoesHome tells content size stops (port_in (ports_of (slice_get nodes place)) p)
-        (record { replica = port_in (ports_of (slice_get nodes place)) p; home = home bays folder node p; out = out bays node p })
-        (record { replica = None; home = home new_bays folder node p; out = out new_bays node p }))
+    (record { replica = port_in (ports_of (slice_get nodes place)) p; home = home bays folder node p; out = out bays node p })
+    (record { replica = None; home = home new_bays folder node p; out = out new_bays node p }))
     (others : bays_tell → OtherNodesStay folder node (home bays) (out bays) (home new_bays) (out new_bays)) where
   abbrev at_first : NodesState B D
   at_first = record { shape = shape; folder = folder; bays = bays; nodes = nodes }
@@ -79,25 +97,6 @@ module _ {B D : Type 0} (bays_tell tells : Type 0) (content : D → Content) (si
     same_folder = refl;
   }
 
-  -- what was held by a place that is closed is held on
-  some_on : (settings : LogSettings) (old new : ReplicaSlot D) → tells → GoesHome tells content size stops old.replica old new → HoldsSome content size settings old.replica old.home → HoldsSome content size settings new.replica new.home
-  some_on settings old new t goes some = go old.replica refl goes
-    where
-      go : (o : Option (ReplicaState D)) → old.replica ≡ o → GoesHome tells content size stops o old new → HoldsSome content size settings new.replica new.home
-      go None none same = subst (λ (s : ReplicaSlot D). HoldsSome content size settings s.replica s.home) (sym same) some
-      go (Some replica) has goes =
-          let went = goes.0 in
-          record {
-            cells = some.cells;
-            doubt = some.doubt;
-            holds = (goes.1 t settings).0 some.cells some.doubt some.holds;
-            open_size = λ r at. absurd (let no : ◌≡◌ {A = Option (ReplicaState D)} None (Some r) = sym (ap (λ (s : ReplicaSlot D). s.replica) went.is) ∙ at in cc);
-            home_size = λ disk at.
-                let both : ◌≡◌ {A = Option D} (Some went.kept) (Some disk) = sym (ap (λ (s : ReplicaSlot D). s.home) went.is) ∙ at in
-                let same : went.kept ≡ disk = cc both in
-                subst (λ (d : D). size d ≡ disk_size settings) same (went.bytes ∙ some.open_size replica has);
-          }
-
   -- nodes that are open still are
   pub open_closed : (s : Shape) (known : tells → bays_tell) → length (slice_set nodes place x) ≡ length nodes → IsOpen bays_tell tells content size home out s folder bays nodes → IsOpen bays_tell tells content size home out s folder new_bays (slice_set nodes place x)
   open_closed s known long it = record {
@@ -113,7 +112,7 @@ module _ {B D : Type 0} (bays_tell tells : Type 0) (content : D → Content) (si
     ];
     places = λ t n p due. elim (cases_eq n node) [
       | inl same ↦ subst (λ (i : ℕ). HoldsSome content size (settings_of s) (replica_at at_last i p) (home new_bays folder i p)) (sym same)
-          (some_on (settings_of s) (slot_at home out folder at_first node p) (slot_at home out folder at_last node p) t (slot_here (known t) p)
+          (some_on tells content size stops (settings_of s) (slot_at home out folder at_first node p) (slot_at home out folder at_last node p) t (slot_here (known t) p)
           (subst (λ (i : ℕ). HoldsSome content size (settings_of s) (replica_at at_first i p) (home bays folder i p)) same (it.places t n p due)))
       | inr other ↦ subst (λ (q : ReplicaSlot D). HoldsSome content size (settings_of s) q.replica q.home) (sym (slot_other (known t) n p other)) (it.places t n p due)
     ];

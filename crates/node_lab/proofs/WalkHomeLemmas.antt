@@ -1,5 +1,5 @@
 -- The disks of a node's replicas go home one by one.
-use Rattle.std.proofs.Common.{◌≡◌, ◌≢◌, ◌⊎◌, inl, inr, ⊎_elim, ℕ, ◌==◌, nat_eq, Bool, true, false, arith, cond, length, List, [], ◌∷◌, ◌++◌, Option, Some, None, refl, sym, ◌∙◌, ap, subst}
+use Rattle.std.proofs.Common.{◌≡◌, ◌≢◌, inl, inr, ⊎_elim, ℕ, ◌==◌, nat_eq, Bool, true, false, arith, cond, length, List, [], ◌∷◌, ◌++◌, Option, Some, None, refl, sym, ◌∙◌, ap, subst}
 use Rattle.std.specs.List.{AllByRecursion, IsDistinct}
 use Rattle.std.specs.Map.{keys_of}
 use Rattle.std.specs.Prelude.{IsSome}
@@ -10,8 +10,8 @@ use Rattle.node_core.specs.Ports.{port_in}
 use Rattle.replica_core.specs.State.{ReplicaState}
 use Rattle.world_model.proofs.CellLaws.{number_true, same_number}
 use Rattle.node_lab.specs.Calls.{PortsOut}
-use Rattle.node_lab.specs.Slots.{OtherNodesStay}
-use Rattle.node_lab.specs.Slots.{GoesHome, ReplicaSlot}
+use Rattle.node_lab.specs.Slots.{GoesHome, OtherNodesStay}
+use Rattle.node_lab.proofs.SlotLemmas.{slot_with}
 
 module _ {P : Type 0} where
   all_last : (Q : ℕ → Type 0) (ys : List (ℕ × P)) (q : ℕ) (r : P) → AllByRecursion Q (keys_of (ys ++ (q, r) ∷ [])) → Q q
@@ -53,9 +53,6 @@ module _ {P : Type 0} where
   other_last (y ∷ ys) q p r other = ap (λ (o : Option P). cond (y.0 == p) (Some y.1) o) (other_last ys q p r other)
 
 module _ {D : Type 0} (tells : Type 0) (content : D → Content) (size : D → ℕ) (stops : Bool) (folder : List ℕ) (node : ℕ) (whole : List (ℕ × ReplicaState D)) (home : Home D) (out : Out) where
-  abbrev pub slot_with : Option (ReplicaState D) → Option D → Option (List ℕ) → ReplicaSlot D
-  slot_with slot h o = record { replica = slot; home = h; out = o }
-
   -- The disks of the rest are out still, and all others of the whole are at home.
   pub record SendsRest (rest : List (ℕ × ReplicaState D)) (new_home : Home D) (new_out : Out) : Type 0 where
     pub front : (p : ℕ) → IsSome (port_in rest p) → port_in whole p ≡ port_in rest p

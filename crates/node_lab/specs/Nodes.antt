@@ -1,5 +1,5 @@
 -- The nodes of a cluster whose disks lie in bays: which replicas are open, and what they hold.
-use Rattle.std.specs.Prelude.{◌≡◌, ℕ, zero, suc, nat_lt, Bool, true, false, ◌&&◌, ◌==◌, cond, List, [], length, Option, Some, None, IsSome, slice_get}
+use Rattle.std.specs.Prelude.{◌≡◌, ℕ, zero, suc, nat_lt, Bool, true, ◌&&◌, ◌==◌, cond, List, [], length, Option, Some, None, IsSome, slice_get}
 use Rattle.std.specs.Option.{is_some}
 use Rattle.blob_id.specs.declared.id.BlobId.{BlobId}
 use Rattle.cell_model.specs.declared.ask.Ask.{Ask}
@@ -8,12 +8,11 @@ use Rattle.cell_model.specs.declared.cell.Cell.{Cell}
 use Rattle.disk_core.specs.Content.{Content}
 use Rattle.disk_core.specs.Homes.{Home, Out}
 use Rattle.log_manifest.specs.declared.manifest.LogSettings.{LogSettings}
-use Rattle.node_core.specs.Nodes.{Node}
 use Rattle.node_core.specs.Ports.{port_in}
 use Rattle.node_lab.specs.declared.state.NodeState.{NodeState}
 use Rattle.node_lab.specs.declared.state.NodeState.TheVariants.{Up, Stopped}
 use Rattle.node_lab.specs.Replicas.{HoldsPlace, settings_of}
-use Rattle.node_lab.specs.Places.{HoldsAt, Place, Places, asked_place, settled_place}
+use Rattle.node_lab.specs.Places.{HoldsAt, Places, asked_place, settled_place}
 use Rattle.node_lab.specs.Slots.{HasLogSize, ReplicaSlot, slot_in}
 use Rattle.part_log.specs.Log.{disk_size}
 use Rattle.replica_core.specs.State.{ReplicaState}

@@ -1,5 +1,5 @@
 -- One step of opening: a replica more of a node, and a node more.
-use Rattle.std.specs.Prelude.{◌≡◌, ◌≢◌, ℕ, Bool, true, List, [], ◌∷◌, ◌++◌, Option, Some, None}
+use Rattle.std.specs.Prelude.{◌≡◌, ℕ, Bool, true, List, [], ◌∷◌, ◌++◌, Option, Some, None}
 use Rattle.std.specs.Option.{is_some}
 use Rattle.disk_core.specs.Content.{Content}
 use Rattle.disk_core.specs.Homes.{Home, Out}
@@ -7,7 +7,7 @@ use Rattle.log_manifest.specs.declared.manifest.LogSettings.{LogSettings}
 use Rattle.node_core.specs.Ports.{port_in}
 use Rattle.node_lab.specs.declared.state.NodeState.{NodeState}
 use Rattle.node_lab.specs.Nodes.{ports_of}
-use Rattle.node_lab.specs.Slots.{FailedAt, OpensAs, OpensWhere, slot_in}
+use Rattle.node_lab.specs.Slots.{FailedAt, OpensWhere, slot_in}
 use Rattle.replica_core.specs.State.{ReplicaState}
 
 -- the ports of a node, with this replica of a partition behind them, if there is one

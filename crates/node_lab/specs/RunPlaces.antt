@@ -1,5 +1,5 @@
 -- What a record of the network leads to: what each replica holds and has in doubt, and how it is laid out.
-use Rattle.std.specs.Prelude.{◌≡◌, ℕ, Bool, true, false, ◌&&◌, ◌==◌, cond, List, [], ◌∷◌, Option, Some, None}
+use Rattle.std.specs.Prelude.{◌≡◌, ℕ, true, ◌&&◌, ◌==◌, cond, List, [], ◌∷◌, Option, Some, None}
 use Rattle.std.specs.Option.{option_map}
 use Rattle.cell_model.specs.declared.ask.Reply.{Reply}
 use Rattle.cell_model.specs.Asks.{id_of}
@@ -8,7 +8,7 @@ use Rattle.disk_core.specs.Homes.{Home}
 use Rattle.log_manifest.specs.declared.manifest.LogSettings.{LogSettings}
 use Rattle.node_lab.specs.Replicas.{settings_of}
 use Rattle.node_lab.specs.Nodes.{Holds, NodesState, has_replica}
-use Rattle.node_lab.specs.Places.{IsPackedBy, Place, Places}
+use Rattle.node_lab.specs.Places.{IsPackedBy, Places}
 use Rattle.part_log.specs.Layout.{Layout}
 use Rattle.replica_core.specs.State.{packed_by}
 use Rattle.world_model.specs.declared.shape.Shape.{Shape}

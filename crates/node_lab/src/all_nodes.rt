@@ -1,6 +1,7 @@
 //! Opening all nodes, and closing them.
 
 ghost use Rattle.std.specs.Prelude.{◌≡◌, ◌⊎◌, ◌<◌, ◌≤◌, [], true, ℕ, List, Some, None, IfOk, OnOk, OnErr, IsErrOf, length};
+ghost use Rattle.std.specs.Option.{is_some};
 ghost use Rattle.node_core.specs.Ports.{port_in};
 ghost use Rattle.node_lab.specs.Calls.{NodesOut};
 ghost use Rattle.node_lab.specs.Nodes.{has_replica, is_of_node, ports_at};
@@ -22,7 +23,11 @@ use std::alloc::Global;
 use world_model::Shape;
 
 /// Closes all nodes: the disks of their replicas go home, as they are or as a stop of the machine leaves them.
-pub(crate) fn close_all<B: Bays>(bays: &mut B, nodes: &mut Vec<NodeState<Replica<B::Disk>>>, stops: bool)
+pub(crate) fn close_all<B: Bays>(
+    bays: &mut B,
+    nodes: &mut Vec<NodeState<Replica<B::Disk>>>,
+    stops: bool,
+)
 where
     B::Disk: Drop,
     requires few { length nodes.old.items ≤ 9 }

@@ -4,8 +4,9 @@ ghost use Rattle.std.specs.Prelude.{◌≡◌, ◌==◌, ◌&&◌, ◌∷◌, �
 ghost use Rattle.std.specs.List.{list_any};
 ghost use Rattle.cell_model.specs.declared.ask.Ask.{Ask};
 ghost use Rattle.cell_model.specs.declared.ask.Reply.{Reply};
+ghost use Rattle.disk_core.specs.Homes.{Out};
 ghost use Rattle.log_manifest.specs.declared.manifest.LogSettings.{LogSettings};
-ghost use Rattle.node_lab.specs.Calls.{AsksNodes, AsksReplica, ClosesNodes, OpensNodes, StayUnopened};
+ghost use Rattle.node_lab.specs.Calls.{AsksNodes, AsksReplica, ClosesNodes, OnlyOwnOut, OpensNodes, StayUnopened};
 ghost use Rattle.node_lab.specs.Nodes.{Holds, HomeHolds, IsFor, NodesState, has_replica, is_of_node, is_up, never_opened, replica_at, settled_places};
 ghost use Rattle.node_lab.specs.Places.{HoldsHere, Place, Places, asked_place, is_fault, landed_at};
 ghost use Rattle.node_lab.specs.Replicas.{settings_of};
@@ -24,9 +25,9 @@ pub fn asking_keeps<D: Disk>()
         → HoldsHere D.content settings old home place → HoldsHere D.content settings new home (asked_place settings ask reply place) }
 {}
 
-/// Nodes that are closed hold what they held, and so do those that aren't opened.
+/// Nodes that are closed hold what they held.
 pub fn closing_keeps<B: Bays>()
-    ensures closed { B.Disk.tells → (shape : Shape) (folder : List ℕ) (places : Places) (old new : NodesState B B.Disk) (meant : ℕ → Bool) (stops : Bool) → old.shape ≡ Some shape
+    ensures { B.Disk.tells → (shape : Shape) (folder : List ℕ) (places : Places) (old new : NodesState B B.Disk) (meant : ℕ → Bool) (stops : Bool) → old.shape ≡ Some shape
         → ClosesNodes B.tells B.Disk.tells B.Disk.content B.Disk.size B.home B.out meant stops old new → Holds B.Disk.content B.home shape folder places old → Holds B.Disk.content B.home shape folder places new }
 {}
 
@@ -47,6 +48,16 @@ pub fn opening_settles<B: Bays>()
 pub fn places_at_home<B: Bays>()
     ensures first { (shape : Shape) (folder : List ℕ) (places : Places) (bays : B) → HomeHolds B.Disk.content B.home shape folder bays places → Holds B.Disk.content B.home shape folder places (never_opened bays) }
     ensures last { (shape : Shape) (folder : List ℕ) (places : Places) (nodes : NodesState B B.Disk) → ((n p : ℕ) → replica_at nodes n p ≡ None) → Holds B.Disk.content B.home shape folder places nodes → HomeHolds B.Disk.content B.home shape folder nodes.bays places }
+{}
+
+/// No disks are out but those of open replicas, and those that were out before the nodes were made.
+pub fn only_own_are_out<B: Bays>()
+    ensures closed { B.tells → (before : Out) (old new : NodesState B B.Disk) (meant : ℕ → Bool) (stops : Bool) → OnlyOwnOut B.out before old
+        → ClosesNodes B.tells B.Disk.tells B.Disk.content B.Disk.size B.home B.out meant stops old new → OnlyOwnOut B.out before new }
+    ensures opened { B.tells → (before : Out) (old new : NodesState B B.Disk) (due : ℕ → ℕ → Bool) (settings : LogSettings) → OnlyOwnOut B.out before old → ((n p : ℕ) → is_up old n p ≡ true → new.folder ≡ old.folder)
+        → OpensNodes B.tells B.Disk.tells B.Disk.content B.Disk.size B.home B.out due settings new.folder old new → OnlyOwnOut B.out before new }
+    ensures unopened { B.tells → (before : Out) (old new : NodesState B B.Disk) (due : ℕ → ℕ → Bool) (settings : LogSettings) (folder : List ℕ) → OnlyOwnOut B.out before old
+        → StayUnopened B.tells B.Disk.tells B.Disk.content B.Disk.size B.home B.out due settings folder old new → OnlyOwnOut B.out before new }
 {}
 
 /// What was told leads on where a request is run, for the whole run: a fault leaves what was asked in doubt at that replica alone.

@@ -77,6 +77,7 @@ where
         requires shape { IsShape shape.now }
         requires closed { self.old.shape ≡ None }
         ensures named { OnOk result ((self.new.shape ≡ Some shape.now) × (self.new.folder ≡ folder.now)) }
+        ensures up { OnOk result ((n p : ℕ) → is_up self.new n p ≡ has_replica shape.now n p) }
         ensures opened { OnOk result (OpensNodes B.tells B.Disk.tells B.Disk.content B.Disk.size B.home B.out (has_replica shape.now) (settings_of shape.now) folder.now self.old self.new) }
         ensures err { OnErr result (self.new ≡ never_opened self.new.bays) }
         ensures closed { OnErr result (StayUnopened B.tells B.Disk.tells B.Disk.content B.Disk.size B.home B.out (has_replica shape.now) (settings_of shape.now) folder.now self.old self.new) }

@@ -1,6 +1,6 @@
 //! How operations end.
 
-ghost use Rattle.std.specs.Prelude.{◌≡◌, ◌≢◌, ℕ, ◌≤◌, ◌++◌, List, [], Option, true, false, Some, OnOk, IfOk, IfSome, IsNone, ◌↔◌};
+ghost use Rattle.std.specs.Prelude.{◌≡◌, ◌≢◌, ℕ, ◌++◌, List, [], Option, true, false, Some, OnOk, IfOk, IfSome, IsNone, ◌↔◌};
 ghost use Rattle.std.specs.Result.{is_ok};
 ghost use Rattle.quorum_op.specs.declared.outcome.Outcome.TheVariants as outcome;
 ghost use Rattle.world_model.specs.declared.history.HistoryMark.{HistoryMark};

@@ -24,8 +24,9 @@
 //!   live (`ended`). It returns: each turn takes one event and counts it, and the count is below 2^64.
 //! - A put that ends otherwise than ok has asked each replica to delete its id: the request went out, or the network refused it
 //!   (`DeletesWhatFailed`, in `Stands`).
-//! - `order` leaves no event queued (`taken`), and a refused order leaves the router and what the network told (`failed`).
-//! - What the network promises of its run is kept (`run`, `goes`, `falls`, `later`).
+//! - `order` leaves no event queued (`taken`); it is refused only where the network failed (`cause`), and a refused order leaves
+//!   the router and what the network told (`failed`).
+//! - What each call makes of the network is what calls of such a network make (`net`).
 //!
 //! # Tested
 //!

@@ -1,20 +1,19 @@
 -- What calls between the opening and the closing of a network make of it.
-use Rattle.std.specs.Prelude.{◌≡◌, ℕ, ◌≤◌, Bool, true, false, ◌&&◌, List, Option, Result, Ok, Err, refl}
-use Rattle.std.proofs.Common.{arith, ◌∙◌}
+use Rattle.std.specs.Prelude.{◌≡◌, ℕ, ◌≤◌, Bool, true, false, List, Option, Result, Ok, Err}
 use Rattle.world_model.specs.declared.fabric.SendFault.{SendFault}
 use Rattle.world_model.specs.declared.shape.Shape.{Shape}
 use Rattle.world_model.specs.Fabric.{KeepsRun}
 use Rattle.world_model.specs.World.{Cells}
 
--- a call did what it was asked to do, or was refused it, but not for want of memory
+-- whether a call found the memory that it needed: it did what it was asked to do, or was refused
 abbrev pub is_whole : {T : Type 0} → Result T SendFault → Bool
 is_whole (Ok answer) = true
 is_whole (Err SendFault.Failed) = true
 is_whole (Err SendFault.Memory) = false
 
--- What is said of a network: how often it failed, the shape that it is open for, which runs lead to what it holds, and what calls make of the rest.
+-- What a kind of network says of itself: how often it failed, the shape that it is open for, which runs lead to what it holds, and what it may become.
 module _ {F : Type 0} (count : F → ℕ) (shape_of : F → Option Shape) (leads : F → Shape → List ℕ → Cells → Type 0) (becomes : F → F → Bool → Type 0) where
-  -- Calls made the new network of the old one, each of them whole or not.
+  -- What calls make of it: it failed no less often, is open for the same shape, what was a run still is one, and it became what its kind may.
   pub record Advances (old new : F) (whole : Bool) : Type 0 where
     pub later : count old ≤ count new
     pub opened : shape_of new ≡ shape_of old

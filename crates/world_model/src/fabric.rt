@@ -6,7 +6,7 @@ ghost use Rattle.outside.specs.Causes.{Rose};
 ghost use Rattle.world_model.specs.declared.shape.Shape.{Shape};
 ghost use Rattle.world_model.specs.declared.step.Called.{Called};
 ghost use Rattle.world_model.specs.Advancing.{Advances, is_whole};
-ghost use Rattle.world_model.specs.AdvancingLaws.{stays, goes_on, at_any_rate};
+ghost use Rattle.world_model.specs.AdvancingLaws.{and_then, anyhow, nowhere};
 ghost use Rattle.world_model.specs.Fabric.{Awaits, Gave, HasNode, IsOpening, IsToldRun, KeepsRun, NoStepWhereOneWaited, TakesOrder, Tells, TellsOrder, TellsSend};
 ghost use Rattle.world_model.specs.Shape.{IsShape};
 ghost use Rattle.world_model.specs.World.{Cells};
@@ -60,8 +60,7 @@ pub trait Fabric {
     /// `open` they are what an opening would find.
     ghost runs: { Self → Shape → List ℕ → Cells → Type 0 };
 
-    /// What a network of this kind may become by its calls; `whole` where each of them did what it was asked to do or was refused
-    /// it, and none found no memory.
+    /// What a network of this kind may become by its calls. They were `whole` where none found no memory and no opening failed.
     ghost advances: { Self → Self → (whole : Bool) → Type 0 };
 
     /// Opens it for a cluster whose disks lie in a folder.
@@ -122,16 +121,16 @@ pub trait Fabric {
 
     ghost advances_on: { (a b c : Self) (x y : Bool) → advances a b x → advances b c y → advances a c (x && y) };
 
-    /// What advanced by whole calls advanced at any rate.
+    /// What it became by any calls, it became by calls that may not have been whole.
     ghost advances_anyhow: { (a b : Self) (x : Bool) → advances a b x → advances a b false };
 
-    // What these come to between the opening and the closing.
+    // What these laws come to between the opening and the closing. An implementation leaves the proofs as they are.
 
-    ghost net_stays: { (a : Self) (whole : Bool) → Advances faults opened runs advances a a whole } = { λ a whole. stays faults opened runs advances a whole (advances_nowhere a) (advances_anyhow a a true) };
+    ghost net_nowhere: { (a : Self) (whole : Bool) → Advances faults opened runs advances a a whole } = { λ a whole. nowhere faults opened runs advances a whole (advances_nowhere a) (advances_anyhow a a true) };
 
-    ghost net_goes_on: { (a b c : Self) (whole : Bool) → Advances faults opened runs advances a b true → Advances faults opened runs advances b c whole → Advances faults opened runs advances a c whole } = { λ a b c whole. goes_on faults opened runs advances a b c whole (advances_on a b c true whole) };
+    ghost net_and_then: { (a b c : Self) (whole : Bool) → Advances faults opened runs advances a b true → Advances faults opened runs advances b c whole → Advances faults opened runs advances a c whole } = { λ a b c whole. and_then faults opened runs advances a b c whole (advances_on a b c true whole) };
 
-    ghost net_at_any_rate: { (a b : Self) (whole : Bool) → Advances faults opened runs advances a b true → Advances faults opened runs advances a b whole } = { λ a b whole. at_any_rate faults opened runs advances a b whole (advances_anyhow a b true) };
+    ghost net_anyhow: { (a b : Self) (whole : Bool) → Advances faults opened runs advances a b true → Advances faults opened runs advances a b whole } = { λ a b whole. anyhow faults opened runs advances a b whole (advances_anyhow a b true) };
 }
 
 /// A network that is lent.

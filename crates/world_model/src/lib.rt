@@ -8,7 +8,8 @@
 //!
 //! # Public calls
 //!
-//! `Fabric` is the trait of a network, `Moves` that of a schedule: both are stated over the definitions of this crate.
+//! `Fabric` is the trait of a network, `Moves` that of a schedule: both are stated over the definitions of this crate. What the
+//! calls on a network make of it is one record (`Advances`), with what its kind says of it in it (`advances`).
 //! `ListMoves` gives listed moves and then those of the plain schedule, `SeedMoves` those of a seed. `node_of` says on which
 //! node a replica stands. `runs_are_safe` is the law.
 //!

@@ -1,4 +1,4 @@
-use Rattle.std.proofs.Common.{◌≡◌, ℕ, Some, true, sym, subst}
+use Rattle.std.proofs.Common.{ℕ, Some, true, sym, subst}
 use Rattle.cell_model.specs.declared.ask.Ask.{Ask}
 use Rattle.cell_model.specs.declared.ask.Reply.{Reply}
 use Rattle.replica_core.specs.State.{IsAsked, ReplicaState, faults_of, fixed_of, told_of}

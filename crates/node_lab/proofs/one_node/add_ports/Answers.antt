@@ -1,5 +1,4 @@
-use Rattle.std.proofs.Common.{rules, None, ◌⊎◌, ◌≡◌, ℕ, ◌≤◌, ◌<◌, ◌+◌, arith, true, List, [], refl, sym, ◌∙◌, ap, subst, ⊎_elim, inl, inr}
-use Rattle.disk_core.specs.Homes.{OthersStay}
+use Rattle.std.proofs.Common.{rules, None, ◌≡◌, ℕ, ◌≤◌, arith, true, List, sym, subst, ⊎_elim, inl, inr}
 use Rattle.replica_core.specs.State.{ReplicaState}
 use Rattle.node_lab.specs.Nodes.{has_replica}
 use Rattle.node_lab.specs.Replicas.{settings_of}
@@ -55,7 +54,7 @@ returns-in_err-add_port-clause-good g c =
 pub returns-in_err-add_port-clause-slots : goal.returns-in_err-add_port-clause-slots
 returns-in_err-add_port-clause-slots g c = λ t p.
     subst (λ (l : List (ℕ × ReplicaState g.row.B-Disk.Denot)). OpensAs g.B.Disk.Disk.tells g.B.Disk.Disk.content g.B.Disk.Disk.size (port_in l p) (has_replica c.args.shape.now c.args.node p) (settings_of c.args.shape.now) c.args.folder.now (slot_in None (g.B.Bays.home c.args.bays.now) (g.B.Bays.out c.args.bays.now) c.args.folder.now c.args.node p)
-      (slot_in (port_in l p) (g.B.Bays.home c.add_port.new.bays) (g.B.Bays.out c.add_port.new.bays) c.args.folder.now c.args.node p)) (sym c.in_err-add_port.ensures.ports)
+    (slot_in (port_in l p) (g.B.Bays.home c.add_port.new.bays) (g.B.Bays.out c.add_port.new.bays) c.args.folder.now c.args.node p)) (sym c.in_err-add_port.ensures.ports)
     (ends_here g.B.Bays.tells g.B.Disk.Disk.tells g.B.Disk.Disk.content g.B.Disk.Disk.size (settings_of c.args.shape.now) c.args.folder.now c.args.shape.now c.args.node (g.B.Bays.home c.args.bays.now) (g.B.Bays.out c.args.bays.now)
     c.loop-partition.partition c.loop-partition.ports.items (g.B.Bays.home c.loop-partition.bays) (g.B.Bays.home c.add_port.new.bays) (g.B.Bays.out c.loop-partition.bays) (g.B.Bays.out c.add_port.new.bays) c.loop-partition.invariant.so_far c.add_port.ensures.others
     c.in_err-add_port.ensures.due c.in_err-add_port.ensures.closed t p)
@@ -82,8 +81,8 @@ pub returns-in_err-add_port-clause-failed : goal.returns-in_err-add_port-clause-
 returns-in_err-add_port-clause-failed g c = λ is.
     ⊎_elim (λ (rose : Rose (g.B.Bays.faults c.loop-partition.bays) (g.B.Bays.faults c.add_port.new.bays)). inl (rose_later (g.B.Bays.faults c.args.bays.now) (g.B.Bays.faults c.loop-partition.bays) (g.B.Bays.faults c.add_port.new.bays) c.loop-partition.invariant.later rose))
     (λ (failed : g.B.Bays.tells → FailedAt g.B.Disk.Disk.tells g.B.Disk.Disk.content g.B.Disk.Disk.size g.B.Disk.Disk.faults
-      (slot_in None (g.B.Bays.home c.loop-partition.bays) (g.B.Bays.out c.loop-partition.bays) c.args.folder.now c.args.node c.loop-partition.partition)
-      (slot_in None (g.B.Bays.home c.add_port.new.bays) (g.B.Bays.out c.add_port.new.bays) c.args.folder.now c.args.node c.loop-partition.partition)).
+    (slot_in None (g.B.Bays.home c.loop-partition.bays) (g.B.Bays.out c.loop-partition.bays) c.args.folder.now c.args.node c.loop-partition.partition)
+    (slot_in None (g.B.Bays.home c.add_port.new.bays) (g.B.Bays.out c.add_port.new.bays) c.args.folder.now c.args.node c.loop-partition.partition)).
     inr (failed_here g.B.Bays.tells g.B.Disk.Disk.tells g.B.Disk.Disk.content g.B.Disk.Disk.size (settings_of c.args.shape.now) c.args.folder.now c.args.shape.now c.args.node (g.B.Bays.home c.args.bays.now) (g.B.Bays.out c.args.bays.now)
     c.loop-partition.partition c.loop-partition.ports.items (g.B.Bays.home c.loop-partition.bays) (g.B.Bays.home c.add_port.new.bays) (g.B.Bays.out c.loop-partition.bays) (g.B.Bays.out c.add_port.new.bays) c.loop-partition.invariant.so_far c.add_port.ensures.others
     c.in_err-add_port.ensures.due g.B.Disk.Disk.faults failed))

@@ -1,4 +1,4 @@
-use Rattle.std.proofs.Common.{◌≡◌, ◌≤◌}
+use Rattle.std.proofs.Common.{◌≤◌}
 use Rattle.node_lab.specs.Replicas.{settings_of}
 use Rattle.node_lab.proofs.PortWalkLemmas.{PortsTo}
 use Rattle.node_lab.proofs.one_node.add_ports.Given as goal

@@ -1,8 +1,7 @@
-use Rattle.std.proofs.Common.{◌≡◌, true, ◌==◌, ◌&&◌, arith}
+use Rattle.std.proofs.Common.{◌≡◌, true, ◌==◌, arith}
 use Rattle.std.proofs.lemmas.Bool.Decides.{nat_tests}
-use Rattle.std.specs.Option.{is_some}
 use Rattle.std.specs.Prelude.{nat_lt}
-use Rattle.world_model.specs.Shape.{node_of, replica_of}
+use Rattle.world_model.specs.Shape.{node_of}
 use Rattle.node_lab.proofs.HostLemmas.{found_below}
 use Rattle.node_lab.proofs.one_node.has_replica.Goals as goal
 

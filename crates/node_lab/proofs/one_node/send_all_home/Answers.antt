@@ -36,13 +36,15 @@ module _ (g : _) (c : goal.Joined-pop g) (q : ℕ) (r : ReplicaState g.row.B-Dis
       c.pop.new.self.items q r (g.B.Bays.home c.loop.bays) (g.B.Bays.home c.loop.bays) (g.B.Bays.out c.loop.bays) (g.B.Bays.out c.loop.bays) apart (sends t folder outs) outs
 
 pub send_home-requires : goal.send_home-requires
-send_home-requires g c = record { out = λ t.
-    let known = c.requires.out t in
-    let rest = subst (λ (l : List (ℕ × ReplicaState g.row.B-Disk.Denot)). SendsRest g.B.Disk.Disk.tells g.B.Disk.Disk.content g.B.Disk.Disk.size c.args.stops known.0 c.args.node c.args.ports.items (g.B.Bays.home c.args.bays.now) (g.B.Bays.out c.args.bays.now) l (g.B.Bays.home c.loop.bays) (g.B.Bays.out c.loop.bays))
-    c.in-Some.ensures.items (c.loop.invariant.rest t known.0 known.1) in
-    let distinct = subst (λ (l : List (ℕ × ReplicaState g.row.B-Disk.Denot)). IsDistinct nat_eq (keys_of l)) c.in-Some.ensures.items c.loop.invariant.distinct in
-    subst (λ (o : Option (List ℕ)). IsSome o) (sym (last_out g.B.Disk.Disk.tells g.B.Disk.Disk.content g.B.Disk.Disk.size c.args.stops known.0 c.args.node c.args.ports.items (g.B.Bays.home c.args.bays.now) (g.B.Bays.out c.args.bays.now)
-    c.pop.new.self.items c.in-Some.partition c.in-Some.replica (g.B.Bays.home c.loop.bays) (g.B.Bays.home c.loop.bays) (g.B.Bays.out c.loop.bays) (g.B.Bays.out c.loop.bays) distinct rest known.1)) refl }
+send_home-requires g c = record {
+  out = λ t.
+      let known = c.requires.out t in
+      let rest = subst (λ (l : List (ℕ × ReplicaState g.row.B-Disk.Denot)). SendsRest g.B.Disk.Disk.tells g.B.Disk.Disk.content g.B.Disk.Disk.size c.args.stops known.0 c.args.node c.args.ports.items (g.B.Bays.home c.args.bays.now) (g.B.Bays.out c.args.bays.now) l (g.B.Bays.home c.loop.bays) (g.B.Bays.out c.loop.bays))
+      c.in-Some.ensures.items (c.loop.invariant.rest t known.0 known.1) in
+      let distinct = subst (λ (l : List (ℕ × ReplicaState g.row.B-Disk.Denot)). IsDistinct nat_eq (keys_of l)) c.in-Some.ensures.items c.loop.invariant.distinct in
+      subst (λ (o : Option (List ℕ)). IsSome o) (sym (last_out g.B.Disk.Disk.tells g.B.Disk.Disk.content g.B.Disk.Disk.size c.args.stops known.0 c.args.node c.args.ports.items (g.B.Bays.home c.args.bays.now) (g.B.Bays.out c.args.bays.now)
+      c.pop.new.self.items c.in-Some.partition c.in-Some.replica (g.B.Bays.home c.loop.bays) (g.B.Bays.home c.loop.bays) (g.B.Bays.out c.loop.bays) (g.B.Bays.out c.loop.bays) distinct rest known.1)) refl;
+}
 
 pub loop-preserved : goal.loop-preserved
 loop-preserved g c = elim c.match-pop.branch [

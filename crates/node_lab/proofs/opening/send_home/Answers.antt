@@ -1,5 +1,4 @@
-use Rattle.std.proofs.Common.{Option, Some, None, refl}
-use Rattle.replica_core.specs.State.{ReplicaState}
+use Rattle.std.proofs.Common.{Some, None, refl}
 use Rattle.node_lab.proofs.SlotLemmas.{sent}
 use Rattle.node_lab.proofs.opening.send_home.Goals as goal
 

@@ -1,13 +1,13 @@
-use Rattle.std.proofs.Common.{◌≡◌, ℕ, ◌+◌, ◌<◌, arith, List, Option, Some, None, length, length-set, slice_set, refl, sym, ◌∙◌, ap, subst}
+use Rattle.std.proofs.Common.{◌≡◌, ◌+◌, ◌<◌, arith, Option, Some, None, length, length-set, slice_set, refl, sym, ◌∙◌, ap, subst}
 use Rattle.std.specs.Prelude.{string_bytes}
 use Rattle.std.specs.List.{slice_get}
 use Rattle.std.proofs.lemmas.Option.{slice_get-get_or}
 use Rattle.replica_core.specs.State.{ReplicaState}
 use Rattle.world_model.specs.declared.shape.Shape.{Shape}
 use Rattle.node_lab.specs.declared.state.NodeState.{NodeState}
-use Rattle.node_lab.specs.Nodes.{IsNodes, IsOpen, NodesState, ports_at, ports_of}
+use Rattle.node_lab.specs.Nodes.{IsNodes, NodesState, ports_of}
 use Rattle.node_lab.specs.Calls.{AsksNodes, AsksPorts}
-use Rattle.node_lab.proofs.NodeAskLemmas.{nodes_asked, nodes_unasked, open_asked}
+use Rattle.node_lab.proofs.NodeAskLemmas.{nodes_asked, open_asked}
 use Rattle.node_lab.proofs.nodes.LabNodes.ask_replica.Goals as goal
 use Rattle.node_lab.proofs.nodes.LabNodes.ask_replica.Goals.{In-Some}
 
@@ -36,8 +36,8 @@ invariant_of-self g c =
     go : (o : Option Shape) → c.self.inside.shape ≡ o → c.in-Some.place < length c.self.inside.nodes.items
         → IsNodes g.B.Bays.tells g.B.Disk.Disk.tells g.B.Disk.Disk.content g.B.Disk.Disk.size g.B.Bays.home g.B.Bays.out o (string_bytes c.self.inside.folder) c.self.inside.bays c.self.inside.nodes.items
         → AsksNodes g.B.Disk.Disk.tells g.B.Disk.Disk.content g.B.Disk.Disk.size g.B.Disk.Disk.faults {B = g.row.B.Denot}
-            (record { shape = o; folder = string_bytes c.self.inside.folder; bays = c.self.inside.bays; nodes = c.self.inside.nodes.items }) c.args.node c.args.partition c.args.ask c.ask_state.result
-            (record { shape = o; folder = string_bytes c.self.inside.folder; bays = c.self.inside.bays; nodes = slice_set c.self.inside.nodes.items c.in-Some.place c.ask_state.new.state })
+        (record { shape = o; folder = string_bytes c.self.inside.folder; bays = c.self.inside.bays; nodes = c.self.inside.nodes.items }) c.args.node c.args.partition c.args.ask c.ask_state.result
+        (record { shape = o; folder = string_bytes c.self.inside.folder; bays = c.self.inside.bays; nodes = slice_set c.self.inside.nodes.items c.in-Some.place c.ask_state.new.state })
         → IsNodes g.B.Bays.tells g.B.Disk.Disk.tells g.B.Disk.Disk.content g.B.Disk.Disk.size g.B.Bays.home g.B.Bays.out o (string_bytes c.self.inside.folder) c.self.inside.bays (slice_set c.self.inside.nodes.items c.in-Some.place c.ask_state.new.state)
     go None is inside none asked = absurd (let few : length c.self.inside.nodes.items ≡ 0 = ap length none.1 in omega (arith, inside, few))
     go (Some shape) is inside it asked =

@@ -1,4 +1,4 @@
-use Rattle.std.proofs.Common.{◌≡◌, ℕ, suc, ◌+◌, ◌<◌, ◌==◌, arith, true, List, Option, Some, None, length, length-set, slice_set, refl, sym, ◌∙◌, ap, subst}
+use Rattle.std.proofs.Common.{◌≡◌, ℕ, suc, ◌+◌, ◌<◌, ◌==◌, arith, true, List, Option, Some, None, length, length-set, slice_set, sym, ◌∙◌, ap, subst}
 use Rattle.std.specs.Prelude.{IsSome, string_bytes}
 use Rattle.std.specs.List.{slice_get}
 use Rattle.std.proofs.lemmas.Option.{slice_get-get_or}
@@ -6,10 +6,9 @@ use Rattle.replica_core.specs.State.{ReplicaState}
 use Rattle.node_core.specs.Ports.{port_in}
 use Rattle.world_model.specs.declared.shape.Shape.{Shape}
 use Rattle.node_lab.specs.declared.state.NodeState.{NodeState}
-use Rattle.node_lab.specs.Nodes.{IsNodes, IsOpen, NodesState, ports_at, ports_of}
+use Rattle.node_lab.specs.Nodes.{IsNodes, NodesState, ports_at, ports_of}
 use Rattle.node_lab.specs.Calls.{ClosesNodes, PortsOut}
-use Rattle.node_lab.specs.Slots.{OtherNodesStay}
-use Rattle.node_lab.specs.Slots.{GoesHome}
+use Rattle.node_lab.specs.Slots.{GoesHome, OtherNodesStay}
 use Rattle.node_lab.proofs.StopLemmas.{nodes_closed, open_closed}
 use Rattle.node_lab.proofs.nodes.LabNodes.stop.Goals as goal
 use Rattle.node_lab.proofs.nodes.LabNodes.stop.Goals.{In-Some}
