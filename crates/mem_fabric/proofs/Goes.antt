@@ -1,5 +1,5 @@
 -- What calls make of the nodes and of what was told.
-use Rattle.std.proofs.Common.{◌≡◌, ◌≢◌, ◌⊎◌, ℕ, ◌==◌, Bool, true, false, ◌&&◌, ◌||◌, not, cond, List, [], ◌∷◌, ◌++◌, Option, Some, None, refl, sym, ap, ◌∙◌, subst}
+use Rattle.std.proofs.Common.{◌≡◌, ◌≢◌, ◌⊎◌, ℕ, zero, suc, ◌==◌, Bool, true, false, ◌&&◌, ◌||◌, not, cond, List, [], ◌∷◌, ◌++◌, Option, Some, None, refl, sym, ap, ◌∙◌, subst}
 use Rattle.std.specs.Option.{is_some}
 use Rattle.std.specs.List.{list_any}
 use Rattle.std.specs.Prelude.{filter, IsSome}
@@ -10,7 +10,7 @@ use Rattle.disk_core.specs.Content.{Content}
 use Rattle.disk_core.specs.Homes.{Home, Out}
 use Rattle.mem_fabric.specs.Causes.{FailsByItself}
 use Rattle.mem_fabric.specs.Doubts.{IsWell}
-use Rattle.mem_fabric.specs.Going.{AreNodesOf, GoesOn, IsStopped, RunsAgain, SameNodes}
+use Rattle.mem_fabric.specs.Going.{AreNodesOf, GoesOn, IsStopped, KeepsBays, RunsAgain, SameNodes}
 use Rattle.mem_fabric.specs.GoingLaws.{bays_stay, bays_on}
 use Rattle.mem_fabric.specs.Network.{MayAnswer, Network, is_stopped, resumed, run_step, stands, told_as}
 use Rattle.mem_fabric.specs.Past.{calls_of, restart_did}
@@ -21,13 +21,13 @@ use Rattle.mem_fabric.proofs.Sounds.{fault_is}
 use Rattle.mem_fabric.proofs.Stops.{among_more, among_less}
 use Rattle.mem_fabric.proofs.Worlds.{after_quiet, apart, same_in_doubt}
 use Rattle.node_lab.specs.Calls.{AsksNodes, AsksReplica, ClosesNodes, FailedIn, IsOutAs, OnlyOwnOut, OpensNodes, StayUnopened}
-use Rattle.node_lab.specs.Nodes.{Holds, HomeHolds, IsFor, NodesState, has_replica, is_of_node, is_up, never_opened, replica_at, slot_at}
-use Rattle.node_lab.specs.Places.{Places, is_fault, landed_at}
+use Rattle.node_lab.specs.Nodes.{Holds, HomeHolds, IsFor, NodesState, has_replica, is_of_node, is_up, never_opened, replica_at, settled_places, slot_at}
+use Rattle.node_lab.specs.Places.{Place, Places, is_fault, landed_at, settled_place}
 use Rattle.node_lab.specs.Replicas.{settings_of}
 use Rattle.node_lab.specs.RunPlaces.{Known, LeadsTo, layouts_after, places_after, places_of}
 use Rattle.node_lab.specs.Slots.{ClosesWhere, GoesHome, OpensWhere, ReplicaSlot, StaysClosedWhere}
-use Rattle.node_lab.proofs.RestartLemmas.{places_closed, places_opened, places_unopened}
-use Rattle.node_lab.proofs.RunLemmas.{ask_leads, restart_leads, run_item}
+use Rattle.node_lab.proofs.RestartLemmas.{all_at_home, first_held, places_closed, places_opened, places_unopened}
+use Rattle.node_lab.proofs.RunLemmas.{SamePlace, ask_leads, holds_same, restart_leads, run_item}
 use Rattle.log_manifest.specs.declared.manifest.LogSettings.{LogSettings}
 use Rattle.replica_core.specs.State.{ReplicaState}
 use Rattle.world_model.specs.declared.shape.Shape.{Shape}
@@ -223,12 +223,13 @@ module _ {B D : Type 0} (bays_tell disks_tell : Type 0) (content : D → Content
 
   -- nothing was done
   pub goes_nowhere : (s : State) (nodes : NodesState B D) → same nodes.bays nodes.bays → AreNodesOf s nodes → Goes s nodes s nodes
-  goes_nowhere s nodes e of = record { of = of; runs = λ shape folder opening first r. r; bays = bays_stay bays_tell out same nodes e }
+  goes_nowhere s nodes e of = record { of = of; shape = refl; runs = λ shape folder opening first r. r; bays = bays_stay bays_tell out same nodes e }
 
   -- one goes on from where another came
   pub goes_on : (s1 : State) (n1 : NodesState B D) (s2 : State) (n2 : NodesState B D) (s3 : State) (n3 : NodesState B D) → (same n1.bays n2.bays → same n2.bays n3.bays → same n1.bays n3.bays) → Goes s1 n1 s2 n2 → Goes s2 n2 s3 n3 → Goes s1 n1 s3 n3
   goes_on s1 n1 s2 n2 s3 n3 joins p q = record {
     of = q.of;
+    shape = q.shape ∙ p.shape;
     runs = λ shape folder opening first r. q.runs shape folder opening first (p.runs shape folder opening first r);
     bays = bays_on bays_tell out same n1 n2 n3 joins p.bays q.bays;
   }
@@ -237,6 +238,7 @@ module _ {B D : Type 0} (bays_tell disks_tell : Type 0) (content : D → Content
   pub goes_by : (s s' : State) (nodes : NodesState B D) → same nodes.bays nodes.bays → KeepsState s s' → SameNodes s s' → AreNodesOf s nodes → Goes s nodes s' nodes
   goes_by s s' nodes e keeps stays of = record {
     of = nodes_stay s s' nodes stays of;
+    shape = refl;
     runs = λ shape folder. runs_at s s' nodes nodes shape folder keeps (λ t places h. h);
     bays = bays_stay bays_tell out same nodes e;
   }
@@ -247,6 +249,7 @@ module _ {B D : Type 0} (bays_tell disks_tell : Type 0) (content : D → Content
       → ClosesNodes bays_tell disks_tell content size home out (λ n. n == node) true nodes nodes' → same nodes.bays nodes'.bays → Goes s nodes s' nodes'
   goes_stopped size known s s' nodes nodes' node keeps stopped of opened closes e = record {
     of = nodes_stop s s' nodes nodes' node stopped closes.shape closes.replicas of;
+    shape = closes.shape;
     runs = λ shape folder. runs_at s s' nodes nodes' shape folder keeps (λ t places holds.
         places_closed bays_tell disks_tell content size home out shape folder places nodes nodes' t known holds (open_for s nodes shape folder of opened holds.named).0 (λ n. n == node) true closes);
     bays = record {
@@ -265,6 +268,7 @@ module _ {B D : Type 0} (bays_tell disks_tell : Type 0) (content : D → Content
       let of' = nodes_stay s s' nodes stays of in
       record {
         of = record { shape = closes.shape ∙ of'.shape; up = λ n p. ap is_some (closes.replicas n p) ∙ of'.up n p };
+        shape = closes.shape;
         runs = λ shape folder. runs_at s s' nodes nodes' shape folder keeps (λ t places holds.
             let is = open_for s nodes shape folder of opened holds.named in
             places_unopened bays_tell disks_tell content size home out shape folder places nodes nodes' t known holds (is_of_node shape node)
@@ -301,6 +305,7 @@ module _ {B D : Type 0} (bays_tell disks_tell : Type 0) (content : D → Content
       let none : (p : ℕ) → replica_at nodes node p ≡ None = λ p. none_there (replica_at nodes node p) (down s nodes node of among p) in
       record {
         of = nodes_restart s s' nodes nodes' node found.0 again named.0 of (sym of.shape ∙ found.1) among opens.up opens.others;
+        shape = named.0;
         runs = λ shape folder opening first leads t.
             let l = leads t in
             let is = open_for s nodes shape folder of opened l.holds.named in
@@ -333,6 +338,7 @@ module _ {B D : Type 0} (bays_tell disks_tell : Type 0) (content : D → Content
       let of' = nodes_stay s s' nodes stays of in
       record {
         of = record { shape = asked.shape ∙ of'.shape; up = λ n p. up n p ∙ of'.up n p };
+        shape = asked.shape;
         runs = λ shape folder opening first leads t.
             let l = leads t in
             let shaped = open_for s nodes shape folder of opened l.holds.named in
@@ -350,6 +356,136 @@ module _ {B D : Type 0} (bays_tell disks_tell : Type 0) (content : D → Content
               (subst (λ (b : B). IsOutAs (is_up nodes n p) nodes.folder (before n p) (out b n p)) (sym asked.same_bays) (own n p)));
         };
       }
+
+  -- ---- runs, where the nodes were open
+
+  pub runs_kept : (s s' : State) (nodes : NodesState B D) → KeepsState s s' → IsSome nodes.shape → IsSome nodes.shape × ((shape : Shape) (folder : List ℕ) → KeepsRuns disks_tell content home (calls_of s.past) nodes (calls_of s'.past) nodes shape folder)
+  runs_kept s s' nodes keeps standing = (standing, λ shape folder. runs_at s s' nodes nodes shape folder keeps (λ t places h. h))
+
+  pub runs_gone : (s s' : State) (nodes nodes' : NodesState B D) → Goes s nodes s' nodes' → IsSome nodes.shape → IsSome nodes'.shape × ((shape : Shape) (folder : List ℕ) → KeepsRuns disks_tell content home (calls_of s.past) nodes (calls_of s'.past) nodes' shape folder)
+  runs_gone s s' nodes nodes' goes standing = (subst (λ o. IsSome o) (sym goes.shape) standing, goes.runs)
+
+  -- ---- all nodes are closed
+
+  pub runs_closed : (size : D → ℕ) (known : disks_tell → bays_tell) (s : State) (nodes nodes' : NodesState B D) → AreNodesOf s nodes → IsSome s.shape → ClosesNodes bays_tell disks_tell content size home out (λ n. true) false nodes nodes'
+      → (shape : Shape) (folder : List ℕ) → KeepsRuns disks_tell content home (calls_of s.past) nodes (calls_of s.past) nodes' shape folder
+  runs_closed size known s nodes nodes' of opened closes shape folder = runs_at s s nodes nodes' shape folder (keeps_itself s) (λ t places holds.
+      places_closed bays_tell disks_tell content size home out shape folder places nodes nodes' t known holds (open_for s nodes shape folder of opened holds.named).0 (λ n. true) false closes)
+
+  pub bays_closed : (size : D → ℕ) (nodes nodes' : NodesState B D) → ClosesNodes bays_tell disks_tell content size home out (λ n. true) false nodes nodes' → same nodes.bays nodes'.bays → KeepsBays bays_tell out same nodes nodes'
+  bays_closed size nodes nodes' closes e = record {
+    same_bays = e;
+    own = λ t before own n p. subst (λ f. IsOutAs (is_up nodes' n p) f (before n p) (out nodes'.bays n p)) (sym closes.same_folder)
+        (own_closed disks_tell content size nodes.folder (before n p) true false (slot_at home out nodes.folder nodes n p) (slot_at home out nodes.folder nodes' n p) (closes.slots t n p) (own n p));
+  }
+
+  -- ---- the first opening
+
+  -- what was told of nodes that were never opened is a run from what their disks at home stand for
+  pub runs_begin : (nodes : NodesState B D) (bays : B) (shape : Shape) (folder : List ℕ) (opening : Cells) (first : Known) → nodes ≡ never_opened bays → (disks_tell → HomeHolds content home shape folder bays (places_after (settings_of shape) opening first [])) → RunsFrom disks_tell content home [] nodes shape folder opening first
+  runs_begin nodes bays shape folder opening first closed held = λ t.
+      subst (λ (x : NodesState B D). LeadsTo content home shape folder opening first [] x) (sym closed) (record { run = tt; packed = tt; holds = first_held content home shape folder (places_after (settings_of shape) opening first []) bays (held t) })
+
+  pub none_open : (nodes : NodesState B D) → nodes ≡ never_opened nodes.bays → (n p : ℕ) → replica_at nodes n p ≡ None
+  none_open nodes closed n p = ap (λ (x : NodesState B D). replica_at x n p) closed ∙ go n
+    where
+      go : (n : ℕ) → replica_at (never_opened {D = D} nodes.bays) n p ≡ None
+      go zero = refl
+      go (suc n) = refl
+
+  -- nothing is settled where nothing was in doubt
+  calm : (place : Place) (o : Option (ReplicaState D)) → place.doubt ≡ None → SamePlace (settled_place (landed_at place.doubt o) place) place
+  calm place o sure = go o
+    where
+      no : (x : Option (ReplicaState D)) → landed_at None x ≡ false
+      no None = refl
+      no (Some replica) = refl
+
+      never : (x : Option (ReplicaState D)) → landed_at place.doubt x ≡ false
+      never x = ap (λ d. landed_at d x) sure ∙ no x
+
+      go : (x : Option (ReplicaState D)) → SamePlace (settled_place (landed_at place.doubt x) place) place
+      go x = subst (λ b. SamePlace (settled_place b place) place) (sym (never x)) (record { cells = λ id. refl; doubt = sure; layout = refl })
+
+  pub runs_opened : (size : D → ℕ) (known : disks_tell → bays_tell) (s s' : State) (nodes nodes' : NodesState B D) (shape : Shape) (folder : List ℕ) → s ≡ fresh_state → KeepsState s s' → nodes ≡ never_opened nodes.bays → (nodes'.shape ≡ Some shape) × (nodes'.folder ≡ folder)
+      → OpensNodes bays_tell disks_tell content size home out (has_replica shape) (settings_of shape) folder nodes nodes' → KeepsRuns disks_tell content home (calls_of s.past) nodes (calls_of s'.past) nodes' shape folder
+  runs_opened size known s s' nodes nodes' shape folder fresh keeps closed named opens = λ opening first leads t.
+      let by = keeps opening in
+      let places = by.1 shape first in
+      let l = leads t in
+      let were : Places = places_after (settings_of shape) opening first (told (calls_of s.past)) in
+      let for : IsFor shape folder nodes'.shape nodes'.folder = subst (λ o. IsFor shape folder o nodes'.folder) (sym named.0) (refl, named.1) in
+      let sure : (n p : ℕ) → (were n p).doubt ≡ None = λ n p. ap (λ (x : State). (world opening (told (calls_of x.past))).doubts n p) fresh in
+      record {
+        run = by.0 l.run;
+        packed = places.0 l.packed;
+        holds = subst (λ (x : Places). Holds content home shape folder x nodes') (sym places.1)
+            (holds_same content home shape folder (settled_places (λ n. true) (λ n p. landed_at (were n p).doubt (replica_at nodes' n p)) were) were nodes' (λ n p. calm (were n p) (replica_at nodes' n p) (sure n p))
+            (places_opened bays_tell disks_tell content size home out shape folder were nodes nodes' t known l.holds for (λ n. true) (λ n p at. none_open nodes closed n p) opens));
+      }
+
+  own_free : (o : Option (ReplicaState D)) (f g : List ℕ) (before now : Option (List ℕ)) → o ≡ None → IsOutAs (is_some o) f before now → IsOutAs (is_some o) g before now
+  own_free None f g before now e own = own
+  own_free (Some replica) f g before now e own = absurd cc
+
+  pub bays_opened : (size : D → ℕ) (nodes nodes' : NodesState B D) (shape : Shape) (folder : List ℕ) → nodes ≡ never_opened nodes.bays → (nodes'.shape ≡ Some shape) × (nodes'.folder ≡ folder)
+      → OpensNodes bays_tell disks_tell content size home out (has_replica shape) (settings_of shape) folder nodes nodes' → same nodes.bays nodes'.bays → KeepsBays bays_tell out same nodes nodes'
+  bays_opened size nodes nodes' shape folder closed named opens e = record {
+    same_bays = e;
+    own = λ t before own n p. subst (λ f. IsOutAs (is_up nodes' n p) f (before n p) (out nodes'.bays n p)) (sym named.1)
+        (own_opened disks_tell content size folder (before n p) (has_replica shape n p) (settings_of shape) (slot_at home out folder nodes n p) (slot_at home out folder nodes' n p) (opens.slots t n p)
+        (own_free (replica_at nodes n p) nodes.folder folder (before n p) (out nodes.bays n p) (none_open nodes closed n p) (own n p)));
+  }
+
+  -- nodes of which none was opened
+  pub runs_unopened : (size : D → ℕ) (known : disks_tell → bays_tell) (s : State) (nodes nodes' : NodesState B D) (shape : Shape) (folder : List ℕ) → StayUnopened bays_tell disks_tell content size home out (has_replica shape) (settings_of shape) folder nodes nodes'
+      → KeepsRuns disks_tell content home (calls_of s.past) nodes (calls_of s.past) nodes' shape folder
+  runs_unopened size known s nodes nodes' shape folder stay = runs_at s s nodes nodes' shape folder (keeps_itself s) (λ t places holds. places_unopened bays_tell disks_tell content size home out shape folder places nodes nodes' t known holds (has_replica shape) stay)
+
+  pub bays_unopened : (size : D → ℕ) (nodes nodes' : NodesState B D) (shape : Shape) (folder : List ℕ) → nodes ≡ never_opened nodes.bays
+      → StayUnopened bays_tell disks_tell content size home out (has_replica shape) (settings_of shape) folder nodes nodes' → same nodes.bays nodes'.bays → KeepsBays bays_tell out same nodes nodes'
+  bays_unopened size nodes nodes' shape folder closed stay e = record {
+    same_bays = e;
+    own = λ t before own n p. own_free (replica_at nodes' n p) folder nodes'.folder (before n p) (out nodes'.bays n p) (stay.replicas n p ∙ none_open nodes closed n p)
+        (own_unopened disks_tell content size folder (before n p) (has_replica shape n p) (settings_of shape) (slot_at home out folder nodes n p) (slot_at home out folder nodes' n p) (stay.slots t n p)
+        (own_free (replica_at nodes n p) nodes.folder folder (before n p) (out nodes.bays n p) (none_open nodes closed n p) (own n p)));
+  }
+
+  -- the disks at home stand for what they did
+  pub home_stays : (size : D → ℕ) (known : disks_tell → bays_tell) (nodes nodes' : NodesState B D) (shape : Shape) (folder : List ℕ) → nodes ≡ never_opened nodes.bays → StayUnopened bays_tell disks_tell content size home out (has_replica shape) (settings_of shape) folder nodes nodes'
+      → disks_tell → (places : Places) → HomeHolds content home shape folder nodes.bays places → HomeHolds content home shape folder nodes'.bays places
+  home_stays size known nodes nodes' shape folder closed stay t places held =
+      let before : Holds content home shape folder places nodes = subst (λ (x : NodesState B D). Holds content home shape folder places x) (sym closed) (first_held content home shape folder places nodes.bays held) in
+      all_at_home content home shape folder places nodes' (λ n p. stay.replicas n p ∙ none_open nodes closed n p) (places_unopened bays_tell disks_tell content size home out shape folder places nodes nodes' t known before (has_replica shape) stay)
+
+  -- nodes that were never opened aren't open
+  pub none_standing : (nodes nodes' : NodesState B D) (P : Type 0) → nodes ≡ never_opened nodes.bays → IsSome nodes.shape → P
+  none_standing nodes nodes' P closed standing = absurd (let none : nodes.shape ≡ None = ap (λ (x : NodesState B D). x.shape) closed in cc)
+
+  -- all nodes of a network that was just opened are up
+  pub of_opened : (size : D → ℕ) (s' : State) (nodes nodes' : NodesState B D) (shape : Shape) (folder : List ℕ) → nodes ≡ never_opened nodes.bays → (nodes'.shape ≡ Some shape) × (nodes'.folder ≡ folder) → (s'.shape ≡ Some shape) × (s'.stopped ≡ [])
+      → OpensNodes bays_tell disks_tell content size home out (has_replica shape) (settings_of shape) folder nodes nodes' → AreNodesOf s' nodes'
+  of_opened size s' nodes nodes' shape folder closed named told_nodes opens = record {
+    shape = named.0 ∙ sym told_nodes.0;
+    up = λ n p. go n p (has_replica shape n p) refl ∙ and_true (has_replica shape n p) ∙ ap (λ o. stands o n p && true) (sym told_nodes.0) ∙ ap (λ l. stands s'.shape n p && not (is_among l n)) (sym told_nodes.1);
+  }
+    where
+      and_true : (b : Bool) → b ≡ (b && true)
+      and_true true = refl
+      and_true false = refl
+
+      go : (n p : ℕ) (b : Bool) → has_replica shape n p ≡ b → is_up nodes' n p ≡ has_replica shape n p
+      go n p true due = opens.up n p due ∙ sym due
+      go n p false due = ap is_some (opens.others n p due ∙ none_open nodes closed n p) ∙ sym due
+
+-- closed nodes keep their shape
+pub closed_shape : {B D : Type 0} (nodes nodes' : NodesState B D) → nodes'.shape ≡ nodes.shape → IsSome nodes.shape → IsSome nodes'.shape
+closed_shape nodes nodes' same standing = subst (λ o. IsSome o) (sym same) standing
+
+-- a network that is open was opened
+pub is_opened : (opened : Bool) (shape : Option Shape) → IsSome (cond opened shape None) → opened ≡ true
+is_opened true shape some = refl
+is_opened false shape some = absurd cc
 
 -- a place of a node is one of that node
 pub node_is : (shape : Shape) (node n p : ℕ) → is_of_node shape node n p ≡ true → n ≡ node

@@ -36,5 +36,6 @@ module _ {B D : Type 0} (bays_tell disks_tell : Type 0) (content : D → Content
   -- The nodes still are those of what was told, and what was a run to what they held is one to what they hold.
   pub record GoesOn (s : State) (nodes : NodesState B D) (s' : State) (nodes' : NodesState B D) : Type 0 where
     pub of : AreNodesOf s' nodes'
+    pub shape : nodes'.shape ≡ nodes.shape
     pub runs : (shape : Shape) (folder : List ℕ) → KeepsRuns disks_tell content home (calls_of s.past) nodes (calls_of s'.past) nodes' shape folder
     pub bays : KeepsBays bays_tell out same nodes nodes'

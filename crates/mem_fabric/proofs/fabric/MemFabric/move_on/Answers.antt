@@ -1,7 +1,9 @@
 use Rattle.std.proofs.Common.{rules, refl, ◌∙◌, ◌++◌, ◌∷◌, [], ap}
-use Rattle.mem_fabric.specs.GoingLaws.{bays_stay, packing_stays}
-use Rattle.mem_fabric.specs.Past.{calls_of}
+use Rattle.mem_fabric.specs.GoingLaws.{bays_stay}
+use Rattle.mem_fabric.specs.Runs.{nothing_known}
 use Rattle.mem_fabric.specs.Sound.{network_of}
+use Rattle.mem_fabric.proofs.Fails.{fails_nowhere}
+use Rattle.mem_fabric.proofs.Goes.{runs_gone}
 use Rattle.mem_fabric.proofs.Playing.{plays_none, plays_next, most_next, has_shape}
 use Rattle.mem_fabric.proofs.fabric.MemFabric.move_on.Goals as goal
 
@@ -9,7 +11,7 @@ pub returns-clause-net : goal.returns-clause-net
 returns-clause-net g c = record {
   later = search rules;
   opened = search rules;
-  run = search rules;
+  run = λ cluster place opening before. c.act.ensures.goes.runs cluster place opening nothing_known before;
   own = record {
     played = plays_next (g.M.Moves.given c.args.self.now.moves) (g.M.Moves.given c.pick-chosen.new.self) (network_of c.args.self.now.cluster) (network_of c.act.new.self) c.pick-chosen.result c.act.result
         (has_shape c.args.self.now.opened c.args.self.now.cluster.shape c.requires.open) c.requires.calm c.act.ensures.does
@@ -17,7 +19,7 @@ returns-clause-net g c = record {
     same = g.met.M.Moves.same_on c.args.self.now.moves c.ready.new.self c.pick-chosen.new.self c.in_ok-ready.ensures.same c.pick-chosen.ensures.same;
     begun = c.pick-chosen.ensures.seeds ∙ c.in_ok-ready.ensures.seeds;
     bays = c.act.ensures.goes.bays;
-    packing = c.act.ensures.goes.packing;
+    runs = runs_gone g.B.Bays.tells g.B.Disk.Disk.tells g.B.Disk.Disk.content g.B.Bays.home g.B.Bays.out g.B.Bays.same c.args.self.now.cluster c.act.new.self c.args.self.now.nodes c.act.new.nodes c.act.ensures.goes;
   };
 }
 
@@ -31,7 +33,7 @@ returns-in_err-ready-clause-net g c = record {
     same = c.ready.ensures.same;
     begun = c.ready.ensures.seeds;
     bays = bays_stay g.B.Bays.tells g.B.Bays.out g.B.Bays.same c.args.self.now.nodes (g.met.B.Bays.same_self c.args.self.now.nodes.bays);
-    packing = packing_stays g.B.Disk.Disk.tells g.B.Disk.Disk.content g.B.Bays.home (calls_of c.args.self.now.cluster.past) c.args.self.now.nodes;
+    runs = λ standing. (standing, λ shape folder opening first before. before);
   };
 }
 
@@ -39,3 +41,6 @@ pub returns-clause-most : goal.returns-clause-most
 returns-clause-most g c =
     most_next (g.M.Moves.given c.args.self.now.moves) (g.M.Moves.given c.pick-chosen.new.self) c.pick-chosen.result c.act.result
     (c.pick-chosen.ensures.given ∙ ap (λ l. l ++ c.pick-chosen.result ∷ []) c.in_ok-ready.ensures.given)
+
+pub returns-in_err-ready-clause-fault : goal.returns-in_err-ready-clause-fault
+returns-in_err-ready-clause-fault g c = fails_nowhere g.B.Disk.Disk.tells g.B.Disk.Disk.content g.B.Disk.Disk.size g.B.Disk.Disk.faults c.args.self.now.cluster c.args.self.now.cluster c.args.self.now.nodes c.args.self.now.nodes refl
