@@ -1,10 +1,12 @@
 -- Which calls tell that a device failed.
-use Rattle.std.proofs.Common.{◌≡◌, ℕ, suc, ◌==◌, Bool, true, false, ◌&&◌, not, cond, List, [], ◌∷◌, length, Option, Some, None, refl, sym, ap, ◌∙◌, subst, arith}
+use Rattle.std.proofs.Common.{◌≡◌, ℕ, suc, ◌==◌, Bool, true, false, ◌&&◌, not, cond, List, [], ◌∷◌, length, Option, Some, None, Result, Ok, Err, refl, sym, ap, ◌∙◌, subst, arith}
 use Rattle.std.specs.List.{list_any}
+use Rattle.std.specs.Prelude.{OnOk, OnErr}
+use Rattle.blob_id.specs.declared.memory.Memory.{Memory}
 use Rattle.cell_model.specs.declared.ask.Reply.{Reply}
 use Rattle.disk_core.specs.Content.{Content}
 use Rattle.mem_fabric.specs.Causes.{FailsByItself}
-use Rattle.mem_fabric.specs.Network.{Moved, Network, broken, cut, dropped, dropped_reply, halted, handed, is_node, is_stopped, quiet, resumed, restarts, run_step, stops, ticked, told_as}
+use Rattle.mem_fabric.specs.Network.{Moved, Network, after_move, broken, cut, dropped, dropped_reply, halted, handed, is_node, is_stopped, quiet, resumed, restarts, run_step, stops, ticked, told_as}
 use Rattle.mem_fabric.specs.Past.{calls_of}
 use Rattle.mem_fabric.specs.Sound.{State, network_of, told_world}
 use Rattle.mem_fabric.proofs.Sounds.{fault_is}
@@ -100,3 +102,12 @@ restarts_whole n node opened done = go (is_node n.shape node && is_stopped n nod
     go true true = refl
     go true false = refl
     go false opened = refl
+
+module _ {B D : Type 0} (tells : Type 0) (content : D → Content) (size faults : D → ℕ) where
+  pub fails_handed : (s s' : State) (nodes nodes' : NodesState B D) (place : Option ℕ) (stays : Bool) (result : Result Event Memory) → OnOk result (network_of s' ≡ after_move (network_of s) (handed (network_of s) place stays)) → OnErr result (s' ≡ s) → FailsByItself tells content size faults s nodes s' nodes'
+  fails_handed s s' nodes nodes' place stays (Ok event) network err = fails_move tells content size faults s s' nodes nodes' (Did.Delivered (handed (network_of s) place stays).event) (handed (network_of s) place stays) network (handed_whole (network_of s) place stays)
+  fails_handed s s' nodes nodes' place stays (Err memory) network err = fails_nowhere tells content size faults s s' nodes nodes' (ap (λ (x : State). calls_of x.past) err)
+
+  pub fails_stopped : (s s' : State) (nodes nodes' : NodesState B D) (node : ℕ) (result : Result Event Memory) → OnOk result (network_of s' ≡ after_move (network_of s) (stops (network_of s) node)) → OnErr result (s' ≡ s) → FailsByItself tells content size faults s nodes s' nodes'
+  fails_stopped s s' nodes nodes' node (Ok event) network err = fails_move tells content size faults s s' nodes nodes' (Did.Delivered (stops (network_of s) node).event) (stops (network_of s) node) network (stops_whole (network_of s) node)
+  fails_stopped s s' nodes nodes' node (Err memory) network err = fails_nowhere tells content size faults s s' nodes nodes' (ap (λ (x : State). calls_of x.past) err)

@@ -3,9 +3,9 @@
 //! # Values
 //!
 //! `MemFabric` is a `Fabric`. It tells each answered call (`told`), newest first, as a ghost, so that neither memory nor time
-//! grows with what is over. `RunsFrom` says that these calls are a run of the model from what the disks at home stood for to
-//! what the replicas hold, `PacksFrom` the same of the layouts of the logs. Both are said as long as nothing is in doubt: no
-//! request was told in which a disk failed.
+//! grows with what is over. `RunsFrom` says, whatever disks do, that these calls are a run of the model from what the disks at
+//! home stood for to what the replicas hold, have in doubt and are laid out as. A replica whose disk failed in a request has
+//! that one change in doubt, and is down, until it is opened again; the network keeps what it was (`Doubt`), without its bytes.
 //!
 //! # Public calls
 //!
@@ -22,8 +22,12 @@
 //!   the clock; a cut loses what is in flight with a node; a stop also sends the node's disks home.
 //! - A request is answered by its node's replica, `NoPartition` exactly where the node has no such replica; bytes that are no
 //!   request come to nothing.
+//! - A request is answered `Fault` only where the disk of the replica that was asked failed in this very call (`fault`).
 //! - `admin` stops a node or lets it run again; an order for the state that the node is in is `Already`, and none fails
-//!   (`never`). A node whose disks aren't opened stays stopped.
+//!   (`never`). A node whose disks aren't opened stays stopped: bays or a disk of its own failed in this order (`stuck`), or the
+//!   refusal names its first disk, by partition, that can't be opened, and why (`refused`), never over disks that tell
+//!   (`never_refused`).
+//! - A node that runs again tells which changes in doubt landed, as its opened replicas show (`Settles`).
 //! - Every call keeps what was said of the run, says which moves were made, also where memory runs out, and that the bays are the
 //!   same (`net`: `PlaysOver`; `run` where it opens or closes). Each refusal, each opening that failed, and nothing else, raises
 //!   the count of faults (`count`).
@@ -36,10 +40,8 @@
 //!
 //! # Not proved
 //!
-//! With which numbers the schedule is asked for a move. Why a restart is refused, and by which disk; that `Stuck(Fault)` has
-//! its cause in the node's own disks. Once a disk failed in a request, anything of any replica. That want of memory is answered
-//! only where an allocation is refused or a count, of requests, replies or waiting events, reaches 2^32 - 1. No node pulls or
-//! compacts yet.
+//! With which numbers the schedule is asked for a move. That want of memory is answered only where an allocation is refused or
+//! a count, of requests, replies or waiting events, reaches 2^32 - 1. No node pulls or compacts yet.
 #![tactic(auto)]
 
 mod acts;
