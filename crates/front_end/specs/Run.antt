@@ -149,14 +149,14 @@ RequestsEndInTime shape record' = (a : Asked) → Has (Notes.asked record') a �
 -- opening, of sends, of orders, of events that waited, and of just these moves, in order and by the rule of moves; a router kept its rules. Where the
 -- disks stood for known cells, the steps are allowed from these, and where no drawn id is named there or was drawn before, the record is safe. No request
 -- to a replica stays open for 65,536 events. Of each operation that ended, and not as a put that is ok, each replica was asked to delete what it drew.
-pub record IsRecorded (shape : Shape) (opens : List Called → Cells → Type 0) (leaves : List Called → Type 0) (moves : List Move) (marks : List HistoryMark) : Type 0 where
+pub record IsRecorded (shape : Shape) (opens : Cells → Type 0) (leaves : List Called → Type 0) (moves : List Move) (marks : List HistoryMark) : Type 0 where
   pub calls : List Called
   pub played : IsPlayed shape moves calls
   pub record' : Record
   pub woven : IsWoven (λ r. r ≡ record') calls marks
-  pub run : (opening : Cells) → opens calls opening → Run opening record'
+  pub run : (opening : Cells) → opens opening → Run opening record'
   pub kept : IsKept (simple_rules shape) record'
-  pub safe : (opening : Cells) → opens calls opening → IsSound opening → DrawsNew opening record' → Safe (simple_rules shape) opening record'
+  pub safe : (opening : Cells) → opens opening → IsSound opening → DrawsNew opening record' → Safe (simple_rules shape) opening record'
   pub in_time : RequestsEndInTime shape record'
   pub deletes : DeletesWhatFailed shape record'
   pub left : leaves calls

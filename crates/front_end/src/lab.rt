@@ -3,13 +3,15 @@
 ghost use Rattle.std.specs.Prelude.{◌≡◌, ◌≢◌, ◌⊎◌, ◌++◌, ◌∷◌, [], ◌<◌, ◌≤◌, ◌+◌, ℕ, List, Option, Some, true};
 ghost use Rattle.outside.specs.Causes.{Rose};
 ghost use Rattle.outside.specs.Words.{started};
-ghost use Rattle.lab_nodes.specs.Nodes.{HomeHolds, never_opened};
-ghost use Rattle.lab_nodes.specs.Spots.{HasFailed};
+ghost use Rattle.mem_fabric.specs.Runs.{RunsFrom};
+ghost use Rattle.node_lab.specs.Nodes.{HomeHolds, never_opened};
+ghost use Rattle.node_lab.specs.Replicas.{settings_of};
+ghost use Rattle.node_lab.specs.RunPlaces.{Known, places_after};
 ghost use Rattle.run_words.specs.Settings.{Spells};
 ghost use Rattle.run_words.specs.declared.settings.Settings.{Settings as SettingsValue};
 ghost use Rattle.world_model.specs.Shape.{IsShape};
 ghost use Rattle.world_model.specs.World.{Cells};
-ghost use Rattle.front_end.specs.Disks.{disks_of};
+ghost use Rattle.front_end.specs.Disks.{OpeningFailed, disks_of};
 ghost use Rattle.front_end.specs.Run.{HasRun, IsUntouched, WasRefused, Wrote, IsFront, outside_of, usage_line};
 ghost use Rattle.front_end.specs.Transcript.{refusal_line};
 
@@ -51,7 +53,7 @@ where
     // network and the router did, which is safe where the disks told what they held, and which leads to what they hold; the schedule
     // was begun once, with the seed of the words. Where the random source can't be started, or there is no memory to read the
     // words, nothing is done.
-    ensures run { (settings : SettingsValue) → Spells settings words.now → HasRun settings.shape (disks_of B.tells B.Disk.tells B.Disk.content B.Disk.size B.Disk.faults B.home settings.shape settings.folder bays.old bays.new) (M.given moves.old) (M.given moves.new) result (outside_of (S.left input.old) (S.left input.new) (K.taken output.old) (K.taken output.new) (started U.seeded settings.ids (U.ahead random.old)) (U.ahead random.new)) × (M.seeds moves.new ≡ M.seeds moves.old ++ settings.seed ∷ [])
+    ensures run { (settings : SettingsValue) → Spells settings words.now → HasRun settings.shape (disks_of B.tells B.Disk.tells B.Disk.content B.Disk.size B.home settings.shape settings.folder bays.old bays.new) (M.given moves.old) (M.given moves.new) result (outside_of (S.left input.old) (S.left input.new) (K.taken output.old) (K.taken output.new) (started U.seeded settings.ids (U.ahead random.old)) (U.ahead random.new)) × (M.seeds moves.new ≡ M.seeds moves.old ++ settings.seed ∷ [])
         ⊎ ((result ≡ 5) ⊎ (result ≡ 6)) × (M.given moves.new ≡ M.given moves.old) × (M.seeds moves.new ≡ M.seeds moves.old) × (bays.new ≡ bays.old) × IsUntouched (outside_of (S.left input.old) (S.left input.new) (K.taken output.old) (K.taken output.new) (U.ahead random.old) (U.ahead random.new)) }
 
     // Each disk that was taken out is at home again, whatever the status.
@@ -60,7 +62,7 @@ where
     // A failure is answered only where it happened.
     ensures source { result ≡ 3 → Rose (S.faults input.old) (S.faults input.new) }
     ensures sink { result ≡ 4 → Rose (K.faults output.old) (K.faults output.new) }
-    ensures random { result ≡ 5 → Rose (U.faults random.old) (U.faults random.new) ⊎ HasFailed B.Disk.faults (B.faults bays.old) (B.faults bays.new) }
+    ensures random { result ≡ 5 → Rose (U.faults random.old) (U.faults random.new) ⊎ ((settings : SettingsValue) × Spells settings words.now × OpeningFailed B.tells B.Disk.tells B.Disk.content B.Disk.size B.faults B.Disk.faults B.home B.out settings.shape settings.folder bays.old bays.new) }
 {
     match read_words(alloc, words) {
         Ok(settings) => run_settings(alloc, &settings, input, output, bays, moves, random),
@@ -112,12 +114,12 @@ where
     B::Disk: Drop,
     requires shape { IsShape settings.now.shape }
     requires limit { settings.now.shape.chunk ≡ 65536 }
-    ensures run { HasRun settings.now.shape (disks_of B.tells B.Disk.tells B.Disk.content B.Disk.size B.Disk.faults B.home settings.now.shape settings.now.folder bays.old bays.new) (M.given moves.old) (M.given moves.new) result (outside_of (S.left input.old) (S.left input.new) (K.taken output.old) (K.taken output.new) (started U.seeded settings.now.ids (U.ahead random.old)) (U.ahead random.new)) × (M.seeds moves.new ≡ M.seeds moves.old ++ settings.now.seed ∷ [])
+    ensures run { HasRun settings.now.shape (disks_of B.tells B.Disk.tells B.Disk.content B.Disk.size B.home settings.now.shape settings.now.folder bays.old bays.new) (M.given moves.old) (M.given moves.new) result (outside_of (S.left input.old) (S.left input.new) (K.taken output.old) (K.taken output.new) (started U.seeded settings.now.ids (U.ahead random.old)) (U.ahead random.new)) × (M.seeds moves.new ≡ M.seeds moves.old ++ settings.now.seed ∷ [])
         ⊎ (result ≡ 5) × (M.given moves.new ≡ M.given moves.old) × (M.seeds moves.new ≡ M.seeds moves.old) × (bays.new ≡ bays.old) × IsUntouched (outside_of (S.left input.old) (S.left input.new) (K.taken output.old) (K.taken output.new) (U.ahead random.old) (U.ahead random.new)) }
     ensures home { B.tells → (n p : ℕ) → B.out bays.new n p ≡ B.out bays.old n p }
     ensures source { result ≡ 3 → Rose (S.faults input.old) (S.faults input.new) }
     ensures sink { result ≡ 4 → Rose (K.faults output.old) (K.faults output.new) }
-    ensures random { result ≡ 5 → Rose (U.faults random.old) (U.faults random.new) ⊎ HasFailed B.Disk.faults (B.faults bays.old) (B.faults bays.new) }
+    ensures random { result ≡ 5 → Rose (U.faults random.old) (U.faults random.new) ⊎ OpeningFailed B.tells B.Disk.tells B.Disk.content B.Disk.size B.faults B.Disk.faults B.home B.out settings.now.shape settings.now.folder bays.old bays.new }
 {
     match random.start(settings.ids) {
         Ok(()) => {}
@@ -151,10 +153,10 @@ where
     B::Disk: Drop,
     requires shape { IsShape shape.now }
     requires limit { shape.now.chunk ≡ 65536 }
-    ensures run { HasRun shape.now (disks_of B.tells B.Disk.tells B.Disk.content B.Disk.size B.Disk.faults B.home shape.now folder.now bays.old bays.new) (M.given moves.old) (M.given moves.new) result (outside_of (S.left input.old) (S.left input.new) (K.taken output.old) (K.taken output.new) (U.ahead random.old) (U.ahead random.new)) }
+    ensures run { HasRun shape.now (disks_of B.tells B.Disk.tells B.Disk.content B.Disk.size B.home shape.now folder.now bays.old bays.new) (M.given moves.old) (M.given moves.new) result (outside_of (S.left input.old) (S.left input.new) (K.taken output.old) (K.taken output.new) (U.ahead random.old) (U.ahead random.new)) }
     ensures seeds { M.seeds moves.new ≡ M.seeds moves.old }
     ensures home { B.tells → (n p : ℕ) → B.out bays.new n p ≡ B.out bays.old n p }
-    ensures failed { result ≡ 5 → HasFailed B.Disk.faults (B.faults bays.old) (B.faults bays.new) }
+    ensures failed { result ≡ 5 → OpeningFailed B.tells B.Disk.tells B.Disk.content B.Disk.size B.faults B.Disk.faults B.home B.out shape.now folder.now bays.old bays.new }
     ensures source { result ≡ 3 → Rose (S.faults input.old) (S.faults input.new) }
     ensures sink { result ≡ 4 → Rose (K.faults output.old) (K.faults output.new) }
 {
@@ -177,11 +179,11 @@ where
     A::Disk: Drop,
     requires shape { IsShape shape.now }
     requires limit { shape.now.chunk ≡ 65536 }
-    ensures run { HasRun shape.now (disks_of A.tells A.Disk.tells A.Disk.content A.Disk.size A.Disk.faults A.home shape.now folder.now bays result.1) (M.given moves.old) (M.given moves.new) result.0 (outside_of (S.left input.old) (S.left input.new) (K.taken output.old) (K.taken output.new) (U.ahead random.old) (U.ahead random.new)) }
+    ensures run { HasRun shape.now (disks_of A.tells A.Disk.tells A.Disk.content A.Disk.size A.home shape.now folder.now bays result.1) (M.given moves.old) (M.given moves.new) result.0 (outside_of (S.left input.old) (S.left input.new) (K.taken output.old) (K.taken output.new) (U.ahead random.old) (U.ahead random.new)) }
     ensures seeds { M.seeds moves.new ≡ M.seeds moves.old }
     ensures same_bays { A.same bays result.1 }
     ensures home { A.tells → (n p : ℕ) → A.out result.1 n p ≡ A.out bays n p }
-    ensures failed { result.0 ≡ 5 → HasFailed A.Disk.faults (A.faults bays) (A.faults result.1) }
+    ensures failed { result.0 ≡ 5 → OpeningFailed A.tells A.Disk.tells A.Disk.content A.Disk.size A.faults A.Disk.faults A.home A.out shape.now folder.now bays result.1 }
     ensures source { result.0 ≡ 3 → Rose (S.faults input.old) (S.faults input.new) }
     ensures sink { result.0 ≡ 4 → Rose (K.faults output.old) (K.faults output.new) }
 {
@@ -204,12 +206,12 @@ where
     A::Disk: Drop,
     requires shape { IsShape shape.now }
     requires limit { shape.now.chunk ≡ 65536 }
-    ensures run { HasRun shape.now (disks_of A.tells A.Disk.tells A.Disk.content A.Disk.size A.Disk.faults A.home shape.now folder.now bays result.1) (N.given moves) (N.given result.2) result.0 (outside_of (S.left input.old) (S.left input.new) (K.taken output.old) (K.taken output.new) (U.ahead random.old) (U.ahead random.new)) }
+    ensures run { HasRun shape.now (disks_of A.tells A.Disk.tells A.Disk.content A.Disk.size A.home shape.now folder.now bays result.1) (N.given moves) (N.given result.2) result.0 (outside_of (S.left input.old) (S.left input.new) (K.taken output.old) (K.taken output.new) (U.ahead random.old) (U.ahead random.new)) }
     ensures same { N.same moves result.2 }
     ensures seeds { N.seeds result.2 ≡ N.seeds moves }
     ensures same_bays { A.same bays result.1 }
     ensures home { A.tells → (n p : ℕ) → A.out result.1 n p ≡ A.out bays n p }
-    ensures failed { result.0 ≡ 5 → HasFailed A.Disk.faults (A.faults bays) (A.faults result.1) }
+    ensures failed { result.0 ≡ 5 → OpeningFailed A.tells A.Disk.tells A.Disk.content A.Disk.size A.faults A.Disk.faults A.home A.out shape.now folder.now bays result.1 }
     ensures source { result.0 ≡ 3 → Rose (S.faults input.old) (S.faults input.new) }
     ensures sink { result.0 ≡ 4 → Rose (K.faults output.old) (K.faults output.new) }
 {
@@ -236,13 +238,13 @@ where
     requires fresh { ⟦<MemFabric<A, N> as Fabric>⟧.fresh fabric.old ≡ true }
     requires told { ⟦<MemFabric<A, N> as Fabric>⟧.told fabric.old ≡ Some [] }
     requires nodes { fabric.old.nodes ≡ never_opened fabric.old.nodes.bays }
-    requires holds { (opening : Cells) → (A.Disk.tells → HomeHolds A.Disk.content A.home shape.now folder.now fabric.old.nodes.bays opening) → ⟦<MemFabric<A, N> as Fabric>⟧.runs fabric.old shape.now folder.now opening }
-    ensures run { HasRun shape.now (disks_of A.tells A.Disk.tells A.Disk.content A.Disk.size A.Disk.faults A.home shape.now folder.now fabric.old.nodes.bays fabric.new.nodes.bays) (N.given fabric.old.moves) (N.given fabric.new.moves) result (outside_of (S.left input.old) (S.left input.new) (K.taken output.old) (K.taken output.new) (U.ahead random.old) (U.ahead random.new)) }
+    requires begins { (opening : Cells) (first : Known) → (A.Disk.tells → HomeHolds A.Disk.content A.home shape.now folder.now fabric.old.nodes.bays (places_after (settings_of shape.now) opening first [])) → RunsFrom A.Disk.tells A.Disk.content A.home [] fabric.old.nodes shape.now folder.now opening first }
+    ensures run { HasRun shape.now (disks_of A.tells A.Disk.tells A.Disk.content A.Disk.size A.home shape.now folder.now fabric.old.nodes.bays fabric.new.nodes.bays) (N.given fabric.old.moves) (N.given fabric.new.moves) result (outside_of (S.left input.old) (S.left input.new) (K.taken output.old) (K.taken output.new) (U.ahead random.old) (U.ahead random.new)) }
     ensures same { N.same fabric.old.moves fabric.new.moves }
     ensures seeds { N.seeds fabric.new.moves ≡ N.seeds fabric.old.moves }
     ensures same_bays { A.same fabric.old.nodes.bays fabric.new.nodes.bays }
     ensures home { A.tells → (n p : ℕ) → A.out fabric.new.nodes.bays n p ≡ A.out fabric.old.nodes.bays n p }
-    ensures failed { result ≡ 5 → HasFailed A.Disk.faults (A.faults fabric.old.nodes.bays) (A.faults fabric.new.nodes.bays) }
+    ensures failed { result ≡ 5 → OpeningFailed A.tells A.Disk.tells A.Disk.content A.Disk.size A.faults A.Disk.faults A.home A.out shape.now folder.now fabric.old.nodes.bays fabric.new.nodes.bays }
     ensures source { result ≡ 3 → Rose (S.faults input.old) (S.faults input.new) }
     ensures sink { result ≡ 4 → Rose (K.faults output.old) (K.faults output.new) }
 {
