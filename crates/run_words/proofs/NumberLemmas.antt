@@ -5,9 +5,8 @@ use Rattle.std.specs.Char.{digit_value}
 use Rattle.std.specs.Str.Parse.{digits_value}
 use Rattle.std.proofs.lemmas.Int.Digits.{digits_value_more}
 use Rattle.std.proofs.lemmas.Bool.Decides.{nat_tests}
-use Rattle.run_words.specs.Options.{is_digit, is_numeral, IsNumeral}
+use Rattle.run_words.specs.Numerals.{is_digit, is_numeral, IsNumeral, number_at}
 use Rattle.run_words.specs.Pathnames.{Text}
-use Rattle.run_words.specs.Reading.{number_at}
 
 pub both : (a b : Bool) → (a && b) ≡ true → (a ≡ true) × (b ≡ true)
 both true b e = (refl, e)

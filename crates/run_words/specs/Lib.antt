@@ -1,4 +1,5 @@
 pub mod Pathnames
+pub mod Numerals
 pub mod Options
-pub mod Reading
+pub mod Parsing
 pub mod Settings

@@ -3,8 +3,7 @@
 ghost use Rattle.std.specs.Prelude.{◌≡◌, ◌^◌, ◌<◌, true, Some, None, if◌then◌else◌, nat_lt};
 ghost use Rattle.std.specs.List.{list_all};
 ghost use Rattle.std.specs.Str.Parse.{digits_value};
-ghost use Rattle.run_words.specs.Options.{is_digit, is_numeral};
-ghost use Rattle.run_words.specs.Reading.{number_at};
+ghost use Rattle.run_words.specs.Numerals.{is_digit, is_numeral, number_at};
 
 fn are_digits(text: &[u8]) -> bool
     ensures { result ≡ list_all is_digit text.now }

@@ -1,23 +1,41 @@
 //! The settings that words give.
 
-ghost use Rattle.std.specs.Prelude.{◌≡◌, ◌≤◌, IfOk, IfErr, IfSome, MatchResult, MatchOption, MatchBool, Some, None, List, ◌∷◌, Err, drop, codes, ℕ};
+ghost use Rattle.std.specs.Prelude.{◌≡◌, ◌≤◌, IfOk, IfErr, IfSome, MatchResult, Some, None, Option, List, [], Err, map, ℕ};
 ghost use Rattle.std.specs.Prelude.{◌^◌, ◌-◌};
+ghost use Rattle.std.specs.Option.{option_copied};
+ghost use Rattle.clap.specs.Words.{first_value, found_of};
 ghost use Rattle.world_model.specs.Shape.{IsShape};
 ghost use Rattle.world_model.specs.declared.shape.LogNumbers.{LogNumbers as LogValue};
 ghost use Rattle.world_model.specs.declared.shape.Shape.{Shape as ShapeValue};
-ghost use Rattle.run_words.specs.Options.{number_for, path_for};
+ghost use Rattle.run_words.specs.Options.{Given, AreOptions, spelling, value_for};
 ghost use Rattle.run_words.specs.Pathnames.{Text};
-ghost use Rattle.run_words.specs.Settings.{IsNumber, majority, least_segment, path_or, GivesLog, GivesShape, GivesSettings, Spells};
-ghost use Rattle.run_words.specs.declared.options.Name.TheVariants as name;
+ghost use Rattle.run_words.specs.Settings.{option_names, IsGiven, IsNumber, IsOptional, IsFolder, majority, least_segment, GivesLog, GivesShape, GivesSettings, Spells};
 ghost use Rattle.run_words.specs.declared.settings.Settings.{Settings as SettingsValue};
 ghost use Rattle.run_words.specs.declared.fault.WordsFault.TheVariants as fault;
 
 use crate::fault::WordsFault;
-use crate::options::{Given, Name, number_for, path_for, read_options};
+use crate::numerals::number_of;
+use crate::options::parse_options;
 use crate::pathnames::Pathname;
 use blob_id::Words;
-use std::alloc::Global;
+use clap::ArgMatches;
+use std::alloc::{AllocError, Global};
 use world_model::{LogNumbers, Shape};
+
+static OPTION_NAMES: [&str; 12] = [
+    "nodes",
+    "replicas",
+    "partitions",
+    "put",
+    "get",
+    "delete",
+    "segment",
+    "segments",
+    "index",
+    "ids",
+    "seed",
+    "folder",
+];
 
 /// What a run is asked for: the cluster's shape, the nonce of counted ids, where ids are counted, the seed of the schedule,
 /// and the folder of the disks.
@@ -40,11 +58,8 @@ pub fn read_words(alloc: Global, words: &Words) -> Result<Settings, WordsFault>
     ensures usage { result ≡ Err fault.Usage → (settings : SettingsValue) → Spells settings words.now → ⊥ }
     ensures shape { IfOk result (λ settings. IsShape settings.shape) }
 {
-    if !begins_with_run(words) {
-        return Err(WordsFault::Usage);
-    }
-    let options = read_options(alloc, words)?;
-    settings_of(alloc, options.as_slice())
+    let texts = texts_of(alloc, words)?;
+    read_texts(alloc, texts.as_slice())
 }
 
 /// The law of the words of command lines.
@@ -53,65 +68,110 @@ pub fn words_laws()
     ensures unique { (first second : SettingsValue) (words : List Text) → Spells first words → Spells second words → first ≡ second }
 {}
 
-/// Whether the first word is `run`.
-fn begins_with_run(words: &Words) -> bool
-    ensures { MatchBool result (words.now ≡ codes "run" ∷ drop 1 words.now) ((rest : List Text) → words.now ≡ codes "run" ∷ rest → ⊥) }
+/// The words as the list that a parser takes.
+fn texts_of(alloc: Global, words: &Words) -> Result<Vec<&str>, AllocError>
+    ensures { IfOk result (λ texts. map (λ text. text.now) texts.items ≡ words.now) }
 {
-    match words.at(0) {
-        Some(word) => word == "run",
-        None => false,
+    let mut texts = Vec::new(alloc);
+    for place in 0..words.len() {
+        match words.at(place) {
+            Some(word) => texts.push(word)?,
+            None => {}
+        }
+    }
+    Ok(texts)
+}
+
+/// The settings that the texts of the words spell.
+fn read_texts(alloc: Global, words: &[&str]) -> Result<Settings, WordsFault>
+    ensures found { IfOk result (λ settings. Spells settings (map (λ word. word.now) words.now)) }
+    ensures only { (settings : SettingsValue) → Spells settings (map (λ word. word.now) words.now)
+        → MatchResult result (λ read. read ≡ settings) (λ reason. reason ≡ fault.Memory) }
+{
+    let [command, options @ ..] = words else {
+        return Err(WordsFault::Usage);
+    };
+    if *command != "run" {
+        return Err(WordsFault::Usage);
+    }
+    read_options(alloc, option_names(), options)
+}
+
+/// The names of the options behind `run`.
+fn option_names() -> &'static [&'static str]
+    ensures { map (λ name. name.now) result.now ≡ option_names }
+{
+    OPTION_NAMES.as_slice()
+}
+
+/// The settings that the words of options give.
+fn read_options<'a>(
+    alloc: Global,
+    names: &'a [&'a str],
+    words: &'a [&'a str],
+) -> Result<Settings, WordsFault>
+    requires { map (λ name. name.now) names.now ≡ option_names }
+    ensures found { IfOk result (λ settings. (options : List Given) × AreOptions option_names [] options
+        × (map (λ word. word.now) words.now ≡ spelling options) × GivesSettings (value_for options) settings) }
+    ensures only { (options : List Given) (settings : SettingsValue) → AreOptions option_names [] options
+        → map (λ word. word.now) words.now ≡ spelling options → GivesSettings (value_for options) settings
+        → MatchResult result (λ read. read ≡ settings) (λ reason. reason ≡ fault.Memory) }
+{
+    match parse_options(alloc, names, words) {
+        Ok(matches) => settings_of(alloc, &matches),
+        Err(reason) => Err(reason),
     }
 }
 
 /// The settings that the options give, where each number lies in its range.
-fn settings_of(alloc: Global, options: &[Given]) -> Result<Settings, WordsFault>
-    ensures found { IfOk result (λ settings. GivesSettings options.now settings) }
-    ensures only { (settings : SettingsValue) → GivesSettings options.now settings
+fn settings_of(alloc: Global, matches: &ArgMatches<'_>) -> Result<Settings, WordsFault>
+    ensures found { IfOk result (λ settings. GivesSettings (first_value (found_of matches.now)) settings) }
+    ensures only { (settings : SettingsValue) → GivesSettings (first_value (found_of matches.now)) settings
         → MatchResult result (λ read. read ≡ settings) (λ reason. reason ≡ fault.Memory) }
 {
-    let Some(shape) = shape_of(options) else {
+    let Some(shape) = shape_of(matches) else {
         return Err(WordsFault::Usage);
     };
-    let seed = match number_for(options, Name::Seed) {
-        Some(seed) => seed,
-        None => 0,
+    let Some(ids) = optional_number(matches.get_str("ids")) else {
+        return Err(WordsFault::Usage);
     };
-    let folder = folder_of(alloc, options)?;
+    let Some(seed) = number_or(matches.get_str("seed"), 0) else {
+        return Err(WordsFault::Usage);
+    };
+    let folder = folder_of(alloc, matches.get_str("folder"))?;
     Ok(Settings {
         shape,
-        ids: number_for(options, Name::Ids),
+        ids,
         seed,
         folder,
     })
 }
 
-/// The folder that the options give, or `ambry-data`.
-fn folder_of(alloc: Global, options: &[Given]) -> Result<Pathname, WordsFault>
-    ensures folder { IfOk result (λ folder. folder ≡ path_or (path_for options.now name.Folder) (codes "ambry-data")) }
-    ensures memory { IfErr result (λ reason. reason ≡ fault.Memory) }
+/// The folder that is given, or `ambry-data`.
+fn folder_of(alloc: Global, given: Option<&str>) -> Result<Pathname, WordsFault>
+    ensures found { IfOk result (λ folder. IsFolder (option_copied given.now) folder) }
+    ensures only { (folder : Text) → IsFolder (option_copied given.now) folder
+        → MatchResult result (λ read. read ≡ folder) (λ reason. reason ≡ fault.Memory) }
 {
-    match path_for(options, Name::Folder) {
-        Some(path) => {
-            let path = path.copy(alloc)?;
-            Ok(path)
-        }
+    match given {
+        Some(text) => Pathname::read(alloc, text.as_bytes()),
         None => Pathname::read(alloc, b"ambry-data".as_slice()),
     }
 }
 
 /// The shape that the options give, where each number lies in its range.
-fn shape_of(options: &[Given]) -> Option<Shape>
-    ensures some { IfSome result (λ shape. GivesShape options.now shape) }
-    ensures only { (shape : ShapeValue) → GivesShape options.now shape → result ≡ Some shape }
+fn shape_of(matches: &ArgMatches<'_>) -> Option<Shape>
+    ensures some { IfSome result (λ shape. GivesShape (first_value (found_of matches.now)) shape) }
+    ensures only { (shape : ShapeValue) → GivesShape (first_value (found_of matches.now)) shape → result ≡ Some shape }
 {
-    let nodes = number_in(options, Name::Nodes, 3, 1, 9)?;
-    let replicas = number_in(options, Name::Replicas, nodes.min(3), 1, nodes)?;
-    let partitions = number_in(options, Name::Partitions, 4, 1, 64)?;
-    let put = need_in(options, Name::Put, replicas)?;
-    let get = need_in(options, Name::Get, replicas)?;
-    let delete = need_in(options, Name::Delete, replicas)?;
+    let nodes = number_in(matches, "nodes", 3, 1, 9)?;
+    let replicas = number_in(matches, "replicas", nodes.min(3), 1, nodes)?;
+    let partitions = number_in(matches, "partitions", 4, 1, 64)?;
+    let put = need_in(matches, "put", replicas)?;
+    let get = need_in(matches, "get", replicas)?;
+    let delete = need_in(matches, "delete", replicas)?;
     let chunk = 65_536;
-    let log = log_of(options, chunk)?;
+    let log = log_of(matches, chunk)?;
     Some(Shape {
         nodes,
         replicas,
@@ -125,15 +185,15 @@ fn shape_of(options: &[Given]) -> Option<Shape>
 }
 
 /// The numbers that the options give for the logs of a cluster with chunks of this size, where each lies in its range.
-fn log_of(options: &[Given], chunk: u32) -> Option<LogNumbers>
+fn log_of(matches: &ArgMatches<'_>, chunk: u32) -> Option<LogNumbers>
     requires chunk { chunk ≤ 4194304 }
-    ensures some { IfSome result (λ log. GivesLog options.now chunk log) }
-    ensures only { (log : LogValue) → GivesLog options.now chunk log → result ≡ Some log }
+    ensures some { IfSome result (λ log. GivesLog (first_value (found_of matches.now)) chunk log) }
+    ensures only { (log : LogValue) → GivesLog (first_value (found_of matches.now)) chunk log → result ≡ Some log }
 {
     let least = least_segment(chunk);
-    let segment = number_in(options, Name::Segment, 1_048_576, least, 16_777_216)?;
-    let segments = number_in(options, Name::Segments, 8, 2, 64)?;
-    let index = number_in(options, Name::Index, 256, 2, 4_096)?;
+    let segment = number_in(matches, "segment", 1_048_576, least, 16_777_216)?;
+    let segments = number_in(matches, "segments", 8, 2, 64)?;
+    let index = number_in(matches, "index", 256, 2, 4_096)?;
     Some(LogNumbers {
         segment,
         segments: segments as u16,
@@ -150,11 +210,11 @@ fn least_segment(chunk: u32) -> u32
 }
 
 /// How many of these replicas an operation needs, where the options' number, or more than half, lies in its range.
-fn need_in(options: &[Given], name: Name, replicas: u32) -> Option<u32>
-    ensures some { IfSome result (λ need. IsNumber (number_for options.now name) (majority replicas) 1 replicas need) }
-    ensures only { (need : ℕ) → IsNumber (number_for options.now name) (majority replicas) 1 replicas need → result ≡ Some need }
+fn need_in(matches: &ArgMatches<'_>, name: &str, replicas: u32) -> Option<u32>
+    ensures some { IfSome result (λ need. IsNumber (first_value (found_of matches.now) name.now) (majority replicas) 1 replicas need) }
+    ensures only { (need : ℕ) → IsNumber (first_value (found_of matches.now) name.now) (majority replicas) 1 replicas need → result ≡ Some need }
 {
-    number_in(options, name, majority(replicas), 1, replicas)
+    number_in(matches, name, majority(replicas), 1, replicas)
 }
 
 fn majority(replicas: u32) -> u32
@@ -164,17 +224,42 @@ fn majority(replicas: u32) -> u32
 }
 
 /// The number that the options give for the name, or the default where they give none, where it lies in its range.
-fn number_in(options: &[Given], name: Name, default: u32, least: u32, most: u32) -> Option<u32>
-    ensures some { IfSome result (λ number. IsNumber (number_for options.now name) default least most number) }
-    ensures only { (number : ℕ) → IsNumber (number_for options.now name) default least most number → result ≡ Some number }
+fn number_in(
+    matches: &ArgMatches<'_>,
+    name: &str,
+    default: u32,
+    least: u32,
+    most: u32,
+) -> Option<u32>
+    ensures some { IfSome result (λ number. IsNumber (first_value (found_of matches.now) name.now) default least most number) }
+    ensures only { (number : ℕ) → IsNumber (first_value (found_of matches.now) name.now) default least most number → result ≡ Some number }
 {
-    let number = match number_for(options, name) {
-        Some(number) => number,
-        None => u64::from(default),
-    };
+    let number = number_or(matches.get_str(name), u64::from(default))?;
     if u64::from(least) <= number && number <= u64::from(most) {
         Some(number as u32)
     } else {
         None
+    }
+}
+
+/// The number that the text spells, or the default where there is no text.
+fn number_or(text: Option<&str>, default: u64) -> Option<u64>
+    ensures some { IfSome result (λ number. IsGiven (option_copied text.now) default number) }
+    ensures only { (number : ℕ) → IsGiven (option_copied text.now) default number → result ≡ Some number }
+{
+    match text {
+        Some(text) => number_of(text.as_bytes()),
+        None => Some(default),
+    }
+}
+
+/// The number that the text spells, where there is a text. `None` where it spells none.
+fn optional_number(text: Option<&str>) -> Option<Option<u64>>
+    ensures some { IfSome result (λ number. IsOptional (option_copied text.now) number) }
+    ensures only { (number : Option ℕ) → IsOptional (option_copied text.now) number → result ≡ Some number }
+{
+    match text {
+        Some(text) => number_of(text.as_bytes()).map(Some),
+        None => Some(None),
     }
 }
