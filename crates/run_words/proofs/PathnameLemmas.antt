@@ -8,13 +8,13 @@ use Rattle.std.proofs.lemmas.List.Sums.{AllPass-from_list_all}
 use Rattle.std.proofs.lemmas.Bool.Decides.{nat_tests}
 use Rattle.run_words.specs.Pathnames.{Text, is_slash, is_path_byte, parts, before_parts, is_pathname}
 use Rattle.run_words.proofs.NumberLemmas.{both}
-use Rattle.run_words.proofs.WordLemmas.{chosen}
+use Rattle.blob_id.proofs.BoolLemmas.{cond_cases}
 
 -- the place of the first slash, counted from i, ends the first part
 part_at : (text : Text) (i place : ℕ) → position_from is_slash i text ≡ Some place
     → (i ≤ place) × (parts text ≡ take (place - i) text ∷ parts (drop (place - i + 1) text))
 part_at [] i place e = absurd cc
-part_at (byte ∷ text) i place e = elim (chosen (is_slash byte) (Some i) (position_from is_slash (i + 1) text) (Some place) e) [
+part_at (byte ∷ text) i place e = elim (cond_cases (is_slash byte) (Some i) (position_from is_slash (i + 1) text) (Some place) e) [
   | inl p ↦
       let is : i ≡ place = cc in
       let none : place - i ≡ 0 = omega (arith, is) in
@@ -34,7 +34,7 @@ cut_part text place e =
 -- where there is no slash, there is one part
 pub one_part : (text : Text) (i : ℕ) → position_from is_slash i text ≡ None → parts text ≡ text ∷ []
 one_part [] i e = refl
-one_part (byte ∷ text) i e = elim (chosen (is_slash byte) (Some i) (position_from is_slash (i + 1) text) None e) [
+one_part (byte ∷ text) i e = elim (cond_cases (is_slash byte) (Some i) (position_from is_slash (i + 1) text) None e) [
   | inl p ↦ absurd cc
   | inr p ↦ rw p.0 (ap (before_parts byte) (one_part text (i + 1) p.1))
 ]
