@@ -5,3 +5,4 @@ pub mod CuttingLemmas
 pub mod ParseLemmas
 pub mod AcceptLemmas
 pub mod MatchesLemmas
+pub mod SettingsLemmas

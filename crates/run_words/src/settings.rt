@@ -73,11 +73,8 @@ fn texts_of(alloc: Global, words: &Words) -> Result<Vec<&str>, AllocError>
     ensures { IfOk result (λ texts. map (λ text. text.now) texts.items ≡ words.now) }
 {
     let mut texts = Vec::new(alloc);
-    for place in 0..words.len() {
-        match words.at(place) {
-            Some(word) => texts.push(word)?,
-            None => {}
-        }
+    while let Some(word) = words.at(texts.len()) {
+        texts.push(word)?;
     }
     Ok(texts)
 }
@@ -149,8 +146,8 @@ fn settings_of(alloc: Global, matches: &ArgMatches<'_>) -> Result<Settings, Word
 
 /// The folder that is given, or `ambry-data`.
 fn folder_of(alloc: Global, given: Option<&str>) -> Result<Pathname, WordsFault>
-    ensures found { IfOk result (λ folder. IsFolder (option_copied given.now) folder) }
-    ensures only { (folder : Text) → IsFolder (option_copied given.now) folder
+    ensures found { IfOk result (λ folder. IsFolder (option_copied given.entry) folder) }
+    ensures only { (folder : Text) → IsFolder (option_copied given.entry) folder
         → MatchResult result (λ read. read ≡ folder) (λ reason. reason ≡ fault.Memory) }
 {
     match given {
@@ -244,8 +241,8 @@ fn number_in(
 
 /// The number that the text spells, or the default where there is no text.
 fn number_or(text: Option<&str>, default: u64) -> Option<u64>
-    ensures some { IfSome result (λ number. IsGiven (option_copied text.now) default number) }
-    ensures only { (number : ℕ) → IsGiven (option_copied text.now) default number → result ≡ Some number }
+    ensures some { IfSome result (λ number. IsGiven (option_copied text.entry) default number) }
+    ensures only { (number : ℕ) → IsGiven (option_copied text.entry) default number → result ≡ Some number }
 {
     match text {
         Some(text) => number_of(text.as_bytes()),
@@ -255,8 +252,8 @@ fn number_or(text: Option<&str>, default: u64) -> Option<u64>
 
 /// The number that the text spells, where there is a text. `None` where it spells none.
 fn optional_number(text: Option<&str>) -> Option<Option<u64>>
-    ensures some { IfSome result (λ number. IsOptional (option_copied text.now) number) }
-    ensures only { (number : Option ℕ) → IsOptional (option_copied text.now) number → result ≡ Some number }
+    ensures some { IfSome result (λ number. IsOptional (option_copied text.entry) number) }
+    ensures only { (number : Option ℕ) → IsOptional (option_copied text.entry) number → result ≡ Some number }
 {
     match text {
         Some(text) => number_of(text.as_bytes()).map(Some),
