@@ -1,7 +1,7 @@
 -- Values give one setting at most, and words those of one run.
 use Rattle.std.proofs.Common.{◌≡◌, ◌∙◌, ◌+◌, ◌-◌, ◌≤◌, ℕ, Option, Some, None, List, [], ◌∷◌, ◌++◌, map, take, drop, length, get_or, slice_get, Result, Ok, Err, MatchResult, refl, sym, ap, subst, min, arith}
 use Rattle.std.specs.Borrow.{Bor}
-use Rattle.std.proofs.lemmas.List.{take_all, take_more}
+use Rattle.std.proofs.lemmas.List.{length-append, map-append, take_all, take_more}
 use Rattle.std.proofs.lemmas.Option.{slice_get_within, get_or_from_slice_get}
 use Rattle.world_model.specs.declared.shape.Shape.{Shape}
 use Rattle.run_words.specs.declared.fault.WordsFault.{WordsFault}
@@ -94,15 +94,19 @@ first_and_rest (word ∷ rest) d some =
     let all : take (length (word ∷ rest) - 1) rest ≡ rest = take_all (length (word ∷ rest) - 1) rest (omega arith) in
     ap (λ (more : List (Bor Text)). word.now ∷ map (λ word. word.now) more) (sym all)
 
--- one more word is taken
-pub one_word_more : (words : List Text) (place : ℕ) (word : Text) → slice_get words place ≡ Some word → take (place + 1) words ≡ take place words ++ word ∷ []
-one_word_more words place word there =
-    take_more words place [] (slice_get_within words place word there) ∙ ap (λ (w : Text). take place words ++ w ∷ []) (get_or_from_slice_get words place word [] there)
+-- the texts of one word more
+pub one_word_more : (texts : List (Bor Text)) (words : List Text) (word : Bor Text) → map (λ text. text.now) texts ≡ take (length texts) words → slice_get words (length texts) ≡ Some word.now
+    → map (λ text. text.now) (texts ++ word ∷ []) ≡ take (length (texts ++ word ∷ [])) words
+one_word_more texts words word so_far there =
+    let taken = take_more words (length texts) [] (slice_get_within words (length texts) word.now there)
+    ∙ ap (λ (w : Text). take (length texts) words ++ w ∷ []) (get_or_from_slice_get words (length texts) word.now [] there) in
+    map-append (λ text. text.now) texts (word ∷ []) ∙ ap (λ (ws : List Text). ws ++ word.now ∷ []) so_far ∙ sym taken
+    ∙ ap (λ (n : ℕ). take n words) (sym (length-append texts (word ∷ [])))
 
 -- words that are read, or for which there is no memory, aren't refused
-pub no_usage : {A : Type 0} {result : Result A WordsFault} {p : A → Type 0} → result ≡ Err fault.Usage → MatchResult result p (λ reason. reason ≡ fault.Memory) → ⊥
-no_usage {A} {Ok x} e m = absurd cc
-no_usage {A} {Err reason} e m =
+pub no_usage : {A : Type 0} (result : Result A WordsFault) (p : A → Type 0) → result ≡ Err fault.Usage → MatchResult result p (λ reason. reason ≡ fault.Memory) → ⊥
+no_usage (Ok x) p e m = absurd cc
+no_usage (Err reason) p e m =
     let usage : reason ≡ fault.Usage = cc in
     let both : fault.Usage ≡ fault.Memory = sym usage ∙ m in
     absurd cc
