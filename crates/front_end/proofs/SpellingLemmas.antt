@@ -4,8 +4,7 @@ use Rattle.std.specs.Str.{bytes_eq}
 use Rattle.std.proofs.lemmas.Bool.Decides.{nat_tests}
 use Rattle.hex.specs.Hex.{decode_of, encode_lower}
 use Rattle.blob_id.specs.Id.{IsId}
-use Rattle.run_words.specs.Options.{IsNumeral}
-use Rattle.run_words.specs.Reading.{number_at}
+use Rattle.run_words.specs.Numerals.{IsNumeral, number_at}
 use Rattle.run_words.proofs.NumberLemmas.{number_takes, number_again}
 use Rattle.world_model.specs.Pieces.{is_composite}
 use Rattle.world_model.specs.declared.order.Order.TheVariants as order

@@ -4,7 +4,7 @@ use Rattle.std.specs.List.{slice_split, list_all}
 use Rattle.std.specs.Str.{bytes_eq}
 use Rattle.hex.specs.Hex.{decode_of, encode_lower}
 use Rattle.blob_id.specs.Id.{id_fault}
-use Rattle.run_words.specs.Reading.{number_at}
+use Rattle.run_words.specs.Numerals.{number_at}
 use Rattle.world_model.specs.declared.order.Order.TheVariants as order
 use Rattle.world_model.specs.Pieces.{is_composite}
 use Rattle.front_end.specs.declared.tags.Tag.{Tag}

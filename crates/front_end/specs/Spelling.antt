@@ -2,7 +2,7 @@
 use Rattle.std.specs.Prelude.{◌≡◌, ◌⊎◌, ℕ, ◌<◌, ◌≤◌, List, [], ◌∷◌, length, true, false, None, Some, Ok, codes}
 use Rattle.hex.specs.Hex.{decode_of, encode_lower}
 use Rattle.blob_id.specs.Id.{IsId}
-use Rattle.run_words.specs.Options.{IsNumeral}
+use Rattle.run_words.specs.Numerals.{IsNumeral}
 use Rattle.world_model.specs.declared.order.Order.TheVariants as order
 use Rattle.world_model.specs.Pieces.{is_composite}
 use Rattle.front_end.specs.declared.tags.Tag.{Tag}

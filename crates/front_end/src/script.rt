@@ -7,7 +7,7 @@ ghost use Rattle.std.specs.Option.{option_copied};
 ghost use Rattle.front_end.specs.declared.script.Command.{Command as Asks};
 ghost use Rattle.front_end.specs.Script.{is_blank, words_of, is_comment, is_letter, is_tag_byte, is_tag, tag_kind, is_new_tag, bytes_of_digits, tag_target, id_of_digits, id_target, behind_dollar, target_of, named_command, node_command, node_of, one_word, named_line, order_line, put_line, operation_of, command_of_words, command_of};
 ghost use Rattle.front_end.specs.Spelling.{Spells};
-ghost use Rattle.run_words.specs.Reading.{number_at};
+ghost use Rattle.run_words.specs.Numerals.{number_at};
 
 use crate::tags::Tags;
 use blob_id::{BlobId, Bytes, Kind, Memory};

@@ -1,10 +1,10 @@
 -- What building makes of the command of options, and that it is one of those of which `clap` says everything.
-use Rattle.std.proofs.Common.{◌≡◌, ◌∙◌, ℕ, ◌+◌, ◌<◌, Bool, true, false, cond, List, [], ◌∷◌, ◌++◌, map, take, length, get_or, Some, refl, sym, ap, codes, is_some}
+use Rattle.std.proofs.Common.{◌≡◌, ◌∙◌, ℕ, ◌+◌, ◌<◌, Bool, true, false, List, [], ◌∷◌, ◌++◌, map, take, length, get_or, Some, refl, sym, ap, codes, is_some}
 use Rattle.std.specs.Borrow.{Bor}
 use Rattle.std.specs.List.{list_any, list_all, fold, count_by}
 use Rattle.std.proofs.lemmas.List.{map-append, take_more}
 use Rattle.blob_id.proofs.BoolLemmas.{cond_alike}
-use Rattle.clap.specs.Words.{App, Rule, with_rule}
+use Rattle.clap.specs.Words.{Rule, with_rule}
 use Rattle.clap.specs.Walk.{Row, with_default, has_row, is_early_multiple}
 use Rattle.clap.specs.Simple.{Shape, new_rule, new_shape, built, filled_from}
 use Rattle.clap.specs.Faults.{is_simple_and_free}

@@ -1,6 +1,6 @@
 -- How a word is cut at its `=`, and the forms of a word.
-use Rattle.std.proofs.Common.{◌≡◌, ◌∙◌, ◌⊎◌, inl, inr, ℕ, zero, suc, ◌+◌, ◌<◌, ◌≤◌, ◌&&◌, ◌||◌, not, nat_eq, Bool, true, false, cond, List, [], ◌∷◌, ◌++◌, length, take, drop, Option, Some, None, refl, sym, ap, ap₂, subst, arith, true≢false, eqb-true, add-one}
-use Rattle.std.specs.List.{list_any, prefix_len, position_or_len, before_first, after_first}
+use Rattle.std.proofs.Common.{◌≡◌, ◌∙◌, ℕ, suc, ◌+◌, ◌||◌, not, nat_eq, Bool, true, false, cond, [], ◌∷◌, ◌++◌, length, take, drop, Option, Some, None, refl, sym, ap, ap₂, subst, arith, true≢false, eqb-true}
+use Rattle.std.specs.List.{list_any, position_or_len, before_first, after_first}
 use Rattle.std.proofs.lemmas.List.{take_at, append-nil}
 use Rattle.std.proofs.Math.Seq.{drop-append-add}
 use Rattle.std.specs.Str.{bytes_eq}

@@ -6,3 +6,4 @@ pub mod ParseLemmas
 pub mod AcceptLemmas
 pub mod MatchesLemmas
 pub mod SettingsLemmas
+pub mod WordsLemmas

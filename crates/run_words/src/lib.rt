@@ -46,11 +46,13 @@ mod numerals;
 mod options;
 mod pathnames;
 mod settings;
+mod words;
 
 pub use fault::WordsFault;
 pub use numerals::number_of;
 pub use pathnames::Pathname;
-pub use settings::{Settings, read_words, words_laws};
+pub use settings::Settings;
+pub use words::{read_words, words_laws};
 
 #[cfg(test)]
 mod tests;

@@ -7,7 +7,7 @@ ghost use Rattle.run_words.specs.Pathnames.{is_path_byte, begins_within, parts, 
 ghost use Rattle.run_words.specs.declared.fault.WordsFault.TheVariants as fault;
 
 use crate::fault::WordsFault;
-use std::alloc::{AllocError, Global};
+use std::alloc::Global;
 use std::marker::Model;
 
 /// The name of a file or a folder: 1 to 255 letters, digits, `.`, `_`, `-` and `/`, the first of them neither `-` nor `/`, with
@@ -36,8 +36,8 @@ impl Pathname {
         }
         match str::from_utf8(text) {
             Ok(text) => {
-                let path = kept(alloc, text)?;
-                Ok(path)
+                let text = String::from_str(alloc, text)?;
+                Ok(Pathname { text })
             }
             Err(_not_text) => Err(WordsFault::Usage),
         }
@@ -48,20 +48,6 @@ impl Pathname {
     {
         self.text.as_str()
     }
-
-    /// The same pathname again.
-    pub fn copy(&self, alloc: Global) -> Result<Pathname, AllocError>
-        ensures { IfOk result (λ path. path ≡ self.now) }
-    {
-        kept(alloc, self.text.as_str())
-    }
-}
-
-fn kept(alloc: Global, text: &str) -> Result<Pathname, AllocError>
-    ensures { IfOk result (λ path. path ≡ text.now) }
-{
-    let text = String::from_str(alloc, text)?;
-    Ok(Pathname { text })
 }
 
 /// Whether the text is a pathname.

@@ -2,8 +2,8 @@ use Rattle.std.proofs.Common.{◌≡◌, ◌∙◌, rules, ap₂, List, [], ◌�
 use Rattle.std.specs.Borrow.{Bor}
 use Rattle.std.proofs.lemmas.Result.{IfOk-weaker}
 use Rattle.run_words.specs.Pathnames.{Text}
-use Rattle.run_words.proofs.SettingsLemmas.{first_and_rest}
-use Rattle.run_words.proofs.settings.read_texts.Goals as goal
+use Rattle.run_words.proofs.WordsLemmas.{first_and_rest}
+use Rattle.run_words.proofs.words.read_texts.Goals as goal
 
 pub returns-clause-found : goal.returns-clause-found
 returns-clause-found c =

@@ -1,8 +1,8 @@
 use Rattle.std.proofs.Common.{◌≡◌, ◌++◌, ◌∷◌, [], rules, List, map, take, length, sym, subst, slice_get, Some}
 use Rattle.std.specs.Borrow.{Bor}
 use Rattle.run_words.specs.Pathnames.{Text}
-use Rattle.run_words.proofs.SettingsLemmas.{one_word_more}
-use Rattle.run_words.proofs.settings.texts_of.Goals as goal
+use Rattle.run_words.proofs.WordsLemmas.{one_word_more}
+use Rattle.run_words.proofs.words.texts_of.Goals as goal
 
 pub loop-word-preserved : goal.loop-word-preserved
 loop-word-preserved c =

@@ -1,8 +1,8 @@
 use Rattle.std.proofs.Common.{◌≡◌, rules, List, map, subst}
 use Rattle.run_words.specs.Pathnames.{Text}
 use Rattle.run_words.specs.Settings.{Spells}
-use Rattle.run_words.proofs.SettingsLemmas.{no_usage}
-use Rattle.run_words.proofs.settings.read_words.Goals as goal
+use Rattle.run_words.proofs.WordsLemmas.{no_usage}
+use Rattle.run_words.proofs.words.read_words.Goals as goal
 
 pub returns-clause-usage : goal.returns-clause-usage
 returns-clause-usage c = λ is settings spells.

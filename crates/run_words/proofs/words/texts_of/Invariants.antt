@@ -1,5 +1,5 @@
 use Rattle.std.proofs.Common.{◌≡◌, map, take, length, ◌-◌}
-use Rattle.run_words.proofs.settings.texts_of.Given as goal
+use Rattle.run_words.proofs.words.texts_of.Given as goal
 
 -- the texts are the words so far
 abbrev pub invariant-loop-word : goal.invariant-loop-word
