@@ -11,7 +11,7 @@ use Rattle.front_end.specs.declared.history.Entry.{Entry}
 use Rattle.front_end.specs.declared.history.Entry.TheVariants.{Mark, Bad, Failed}
 use Rattle.front_end.specs.Past.{answer_after, answer_in, answer_of, answer_or}
 use Rattle.router_core.specs.Fits.{RouterView}
-use Rattle.router_core.specs.Stands.{is_idle}
+use Rattle.router_core.specs.Stands.{is_idle, live_in}
 use Rattle.front_end.specs.Outline.{outline_entry}
 use Rattle.front_end.specs.declared.tags.Tag.{Tag}
 use Rattle.front_end.specs.declared.session.Session.{Session}
@@ -94,7 +94,7 @@ answers_own s e k same = sym (ap (λ (es : List Entry). answer_of es k) (append-
 pub answers_later : (s : State) (e : Entry) (k : ℕ) → answer_after (answer_of (entries_of s) k) e k ≡ answer_of (entries_of s) k → answer_of (entries_of s) k ≡ answer_of (s.settled ++ (s.later ++ e ∷ [])) k
 answers_later s e k same = sym (ap (λ (es : List Entry). answer_of es k) (sym (append_assoc s.settled s.later (e ∷ []))) ∙ answer_stays (entries_of s) e k same)
 
-pub keeps_new : (s : Session) → s.tags ≡ [] → is_idle s.router.stage ≡ true → s.lines ≡ 0 → s.bad ≡ false → s.settled ≡ [] → s.later ≡ [] → s.answers.items ≡ [] → Keeps s nothing_yet
+pub keeps_new : (s : Session) → s.tags ≡ [] → is_idle (live_in s.router.stages) ≡ true → s.lines ≡ 0 → s.bad ≡ false → s.settled ≡ [] → s.later ≡ [] → s.answers.items ≡ [] → Keeps s nothing_yet
 keeps_new s tags idle lines bad settled later answers = record {
   tags = tags;
   busy = idle;
@@ -164,7 +164,7 @@ on_ok_both (Ok x) f p q = f p q
 on_ok_both (Err e) f p q = tt
 
 -- another router, where it is as idle
-pub keeps_router : (s : Session) (router : RouterView) (state : State) → is_idle router.stage ≡ is_idle s.router.stage → Keeps s state → Keeps (record s { router = router }) state
+pub keeps_router : (s : Session) (router : RouterView) (state : State) → is_idle (live_in router.stages) ≡ is_idle (live_in s.router.stages) → Keeps s state → Keeps (record s { router = router }) state
 keeps_router s router state same k = record {
   tags = k.tags;
   busy = same ∙ k.busy;

@@ -22,3 +22,4 @@ pub mod RecordLemmas
 pub mod LaterLemmas
 pub mod DiskLemmas
 pub mod ClusterLemmas
+pub mod AloneLemmas

@@ -4,11 +4,10 @@ use Rattle.mem_fabric.specs.Played.{IsPlayed}
 use Rattle.router_core.specs.Fits.{RouterView}
 use Rattle.router_core.specs.Removals.{DeletesWhatFailed}
 use Rattle.router_core.specs.Stages.{simple_rules}
-use Rattle.router_core.specs.Stands.{OwnsStage, Stands}
+use Rattle.router_core.specs.Stands.{Stands}
 use Rattle.router_core.specs.Ties.{IsWoven}
-use Rattle.router_core.specs.declared.router.Stage.{Stage}
 use Rattle.world_model.specs.declared.history.HistoryMark.{HistoryMark}
-use Rattle.world_model.specs.declared.moves.Move.{Move}
+use Rattle.world_model.specs.declared.offers.GivenMove.{GivenMove}
 use Rattle.world_model.specs.declared.shape.Shape.{Shape}
 use Rattle.world_model.specs.declared.step.Called.{Called}
 use Rattle.world_model.specs.Record.{Record}
@@ -21,28 +20,16 @@ use Rattle.world_model.proofs.ToldLaws.{woven_runs}
 use Rattle.front_end.specs.Run.{HasFinished, HasStopped, WasCutOff, IsRecorded, Outside}
 use Rattle.front_end.proofs.TimelyLemmas.{open_in_time}
 
--- what a router keeps at any stage is of a record over which it kept its rules
-stage_kept : (shape : Shape) (r : Record) (stage : Stage) → OwnsStage shape r stage → IsKept (simple_rules shape) r
-stage_kept shape r Stage.Idle owns = owns.going.kept
-stage_kept shape r (Stage.UnderWay live) owns = owns.under_way.going.kept
-stage_kept shape r (Stage.Over operation outcome) owns = owns.over.going.kept
-
--- and over which each replica was asked to delete what failed
-stage_deletes : (shape : Shape) (r : Record) (stage : Stage) → OwnsStage shape r stage → DeletesWhatFailed shape r
-stage_deletes shape r Stage.Idle owns = owns.going.deletes
-stage_deletes shape r (Stage.UnderWay live) owns = owns.under_way.going.deletes
-stage_deletes shape r (Stage.Over operation outcome) owns = owns.over.going.deletes
-
 abbrev pub RunsAreSafe : Type 0
 RunsAreSafe = (rules : Rules) (opening : Cells) (record' : Record) → IsSound opening → DrawsNew opening record' → Run opening record' → IsKept rules record' → Safe rules opening record'
 
 -- what was told of calls, from the cells that the disks are known to have stood for, and what holds of the disks behind them
-pub recorded : (shape : Shape) (opens : List Called → Cells → Type 0) (leaves : List Called → Type 0) (router : RouterView) (moves : List Move) (calls : List Called) (marks : List HistoryMark) → RunsAreSafe → router.shape ≡ shape → IsPlayed shape moves calls
+pub recorded : (shape : Shape) (opens : List Called → Cells → Type 0) (leaves : List Called → Type 0) (router : RouterView) (moves : List GivenMove) (calls : List Called) (marks : List HistoryMark) → RunsAreSafe → router.shape ≡ shape → IsPlayed shape moves calls
     → ((opening : Cells) → opens calls opening → Run opening (told calls)) → leaves calls → IsWoven (Stands router) calls marks → IsRecorded shape opens leaves moves marks
 recorded shape opens leaves router moves calls marks safe same played run left w =
     let r = weave w.placed calls in
     let ran : (opening : Cells) → opens calls opening → Run opening r = λ opening held. woven_runs opening w.placed calls w.stands.only (run opening held) in
-    let kept : IsKept (simple_rules shape) r = subst (λ (s : Shape). IsKept (simple_rules s) r) same (stage_kept router.shape r router.stage w.so.owns.stage) in
+    let kept : IsKept (simple_rules shape) r = subst (λ (s : Shape). IsKept (simple_rules s) r) same w.so.going.kept in
     record {
       calls = calls;
       played = played;
@@ -52,7 +39,7 @@ recorded shape opens leaves router moves calls marks safe same played run left w
       kept = kept;
       safe = λ opening held sound new. safe (simple_rules shape) opening r sound new (ran opening held) kept;
       in_time = open_in_time shape r;
-      deletes = subst (λ (s : Shape). DeletesWhatFailed s r) same (stage_deletes router.shape r router.stage w.so.owns.stage);
+      deletes = subst (λ (s : Shape). DeletesWhatFailed s r) same w.so.going.deletes;
       left = left;
     }
 

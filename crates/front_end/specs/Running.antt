@@ -1,12 +1,13 @@
 -- A run between two script lines.
-use Rattle.std.specs.Prelude.{◌≡◌, ℕ, List, [], ◌∷◌, ◌++◌, length, Option, None, Some}
+use Rattle.std.specs.Prelude.{◌≡◌, ℕ, Bool, true, false, List, [], ◌∷◌, ◌++◌, length, Option, None, Some, Result, Err}
 use Rattle.std.specs.Io.KnownBytes.{Appends}
 use Rattle.world_model.specs.declared.history.HistoryMark.{HistoryMark}
 use Rattle.world_model.specs.declared.shape.Shape.{Shape}
 use Rattle.world_model.specs.declared.step.Called.{Called}
-use Rattle.world_model.specs.Fabric.{KeepsRun}
+use Rattle.world_model.specs.Advancing.{Advances}
 use Rattle.world_model.specs.World.{Cells}
 use Rattle.router_core.specs.Fits.{RouterView}
+use Rattle.front_end.specs.declared.lines.Stop.{Stop}
 use Rattle.front_end.specs.declared.run.Ending.{Ending}
 use Rattle.front_end.specs.declared.session.Session.{Session}
 use Rattle.front_end.specs.Lines.{BeginsWith}
@@ -71,28 +72,20 @@ pub record Closes (old new : Session) (before now : List HistoryMark → Type 0)
   pub part : written added bytes
   pub wrote : Appends taken_old taken_new bytes
 
--- what a network tells, which runs it knows, and what it may become by answered calls, and by calls that may find no memory
-pub record Telling (F : Type 0) : Type 1 where
-  pub told : F → Option (List Called)
-  pub runs : F → Shape → List ℕ → Cells → Type 0
-  pub goes : F → F → Type 0
-  pub falls : F → F → Type 0
+-- what a script came to, but where it found no memory
+abbrev pub found_memory : {T : Type 0} → Result T Stop → Bool
+found_memory (Err Stop.Memory) = false
+found_memory _ = true
 
--- a network's calls are still a run where they were one
-abbrev pub StillRuns : {F : Type 0} → Telling F → F → F → Type 0
-StillRuns t old new = (cluster : Shape) (place : List ℕ) → KeepsRun (t.runs old cluster place) (t.runs new cluster place)
-
--- By answered calls alone a network became this one, and so it holds of what ties a router of this shape to its calls.
-pub record IsOn {F : Type 0} (t : Telling F) (shape : Shape) (old new : F) (holds : (List HistoryMark → Type 0) → Type 0) : Type 0 where
+-- It holds of what ties a router of this shape to the calls that a network told.
+pub record IsOn {F : Type 0} (told : F → Option (List Called)) (shape : Shape) (now : F) (holds : (List HistoryMark → Type 0) → Type 0) : Type 0 where
   pub router : RouterView
   pub shaped : router.shape ≡ shape
-  pub went : t.goes old new
-  pub run : StillRuns t old new
-  pub so : holds (ties_of router (t.told new))
+  pub so : holds (ties_of router (told now))
 
--- So it was, before a line or the end of the script was refused memory.
-pub record WasOn {F : Type 0} (t : Telling F) (shape : Shape) (old new : F) (holds : (List HistoryMark → Type 0) → Type 0) : Type 0 where
+-- By whole calls a network came to where it holds, before a line or the end of the script was refused memory.
+pub record WasOn {F : Type 0} (faults : F → ℕ) (opened : F → Option Shape) (runs : F → Shape → List ℕ → Cells → Type 0) (advances : F → F → Bool → Type 0) (told : F → Option (List Called)) (shape : Shape) (old new : F) (holds : (List HistoryMark → Type 0) → Type 0) : Type 0 where
   pub between : F
-  pub was : IsOn t shape old between holds
-  pub fell : t.falls between new
-  pub run : StillRuns t between new
+  pub went : Advances faults opened runs advances old between true
+  pub was : IsOn told shape between holds
+  pub fell : Advances faults opened runs advances between new false

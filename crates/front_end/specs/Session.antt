@@ -11,7 +11,7 @@ use Rattle.world_model.specs.declared.order.Told.{Told}
 use Rattle.world_model.specs.declared.shape.Shape.{Shape}
 use Rattle.world_model.specs.declared.step.Called.{Called}
 use Rattle.world_model.specs.Pieces.{is_composite, is_simple}
-use Rattle.router_core.specs.Stands.{Stands, is_idle}
+use Rattle.router_core.specs.Stands.{Stands, is_idle, live_in}
 use Rattle.router_core.specs.Ties.{Ties}
 use Rattle.router_core.specs.Fits.{RouterView}
 use Rattle.front_end.specs.declared.tags.Tag.{Tag}
@@ -64,7 +64,7 @@ live_numbers busy tags = cond busy (length tags ∷ []) []
 -- What a session keeps of it: the entries without the bytes of bodies, and the answer of each operation apart, so that it is found at once.
 pub record Keeps (s : Session) (state : State) : Type 0 where
   pub tags : s.tags ≡ state.tags
-  pub busy : is_idle s.router.stage ≡ not state.busy
+  pub busy : is_idle (live_in s.router.stages) ≡ not state.busy
   pub some : state.busy ≡ true → 0 < length state.tags
   pub lines : s.lines ≡ state.lines
   pub bad : s.bad ≡ state.bad
@@ -78,13 +78,20 @@ abbrev pub IsSimpleAnswer : Option (List ℕ) → Type 0
 IsSimpleAnswer None = Unit {0}
 IsSimpleAnswer (Some id) = is_simple id ≡ true
 
+-- none is live but the last operation
+abbrev pub IsAlone : List ℕ → (last : ℕ) → Type 0
+IsAlone [] last = Unit {0}
+IsAlone (n ∷ []) last = n ≡ last
+IsAlone _ last = ⊥
+
 -- What holds of a session between two script lines: its router began an operation for each tag, a put has 65,536 bytes at most, and each answer
--- is a simple id.
+-- is a simple id, and it has one operation at a time.
 pub record IsReady (s : Session) : Type 0 where
   pub begun : s.router.begun ≡ length s.tags
   pub limit : s.router.shape.chunk ≡ 65536
   pub few : s.router.shape.partitions ≤ 64
   pub simple : AllByRecursion IsSimpleAnswer s.answers.items
+  pub alone : IsAlone (live_in s.router.stages) (length s.tags)
 
 -- what ties a router's calls on a network to the marks of a history
 abbrev pub ties_of : RouterView → Option (List Called) → List HistoryMark → Type 0
@@ -126,7 +133,7 @@ IsEnding false outcome = outcome ≡ None
 -- What finishing makes of a session: the last operation has its end, whose line was added.
 pub record Finishes (old new : Session) (before now : List HistoryMark → Type 0) (old_out new_out : List ℕ) : Type 0 where
   pub outcome : Option Outcome
-  pub ends : IsEnding (not (is_idle old.router.stage)) outcome
+  pub ends : IsEnding (not (is_idle (live_in old.router.stages))) outcome
   pub becomes : (state : State) → Keeps old state → Keeps new (finished_by state outcome)
   pub ties : (marks : List HistoryMark) → before marks → now (end_of (length old.tags) outcome ++ marks)
   pub told : new_out ≡ old_out ++ ending_of old.tags outcome

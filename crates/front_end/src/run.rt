@@ -4,14 +4,14 @@ ghost use Rattle.std.specs.Prelude.{◌≡◌, ◌≢◌, ◌⊎◌, ◌≤◌, 
 ghost use Rattle.std.specs.Io.KnownBytes.{Appends};
 ghost use Rattle.outside.specs.Causes.{Rose};
 ghost use Rattle.world_model.specs.declared.shape.Shape.{Shape};
-ghost use Rattle.world_model.specs.Fabric.{KeepsRun};
+ghost use Rattle.world_model.specs.Advancing.{Advances};
 ghost use Rattle.world_model.specs.Shape.{IsShape};
-ghost use Rattle.router_core.specs.Stands.{Stands, is_idle};
+ghost use Rattle.router_core.specs.Stands.{Stands, is_idle, live_in};
 ghost use Rattle.front_end.specs.declared.script.Command.TheVariants.{End as TheEnd};
 ghost use Rattle.front_end.specs.Script.{command_of};
 ghost use Rattle.front_end.specs.Session.{IsReady, ties_of};
 ghost use Rattle.front_end.specs.Run.{HasFinished, HasStopped, WasCutOff, outside_of, status_of};
-ghost use Rattle.front_end.specs.Running.{Closes, IsOn, WasOn, RunsLine, StillRuns, IsAll, IsSome, IsRunning, RanLines};
+ghost use Rattle.front_end.specs.Running.{Closes, IsOn, WasOn, RunsLine, IsAll, IsSome, IsRunning, RanLines, found_memory};
 
 use crate::lines::{LineReader, Next, Stop};
 use crate::session::Session;
@@ -44,15 +44,14 @@ pub(crate) fn run_script<S: Source, K: Sink, U: Random, F: Fabric>(
     requires limit { shape.now.chunk ≡ 65536 }
     requires open { F.opened fabric.old ≡ Some shape.now }
     requires quiet { (router : _) → Stands router [] → ties_of router (F.told fabric.old) [] }
-    ensures finished { IfOk result (λ status. IsOn (record { told = F.told; runs = F.runs; goes = F.goes; falls = F.falls }) shape.now fabric.old fabric.new (λ tie. HasFinished shape.now tie status (outside_of (S.left input.old) (S.left input.new) (K.taken output.old) (K.taken output.new) (U.ahead random.old) (U.ahead random.new)))) }
+    ensures finished { IfOk result (λ status. IsOn F.told shape.now fabric.new (λ tie. HasFinished shape.now tie status (outside_of (S.left input.old) (S.left input.new) (K.taken output.old) (K.taken output.new) (U.ahead random.old) (U.ahead random.new)))) }
     ensures status { IfOk result (λ status. (status ≡ 0) ⊎ ((status ≡ 2) ⊎ (status ≡ 8))) }
-    ensures stopped { IsErrOf result Stop.Source → IsOn (record { told = F.told; runs = F.runs; goes = F.goes; falls = F.falls }) shape.now fabric.old fabric.new (λ tie. HasStopped shape.now tie (outside_of (S.left input.old) (S.left input.new) (K.taken output.old) (K.taken output.new) (U.ahead random.old) (U.ahead random.new)) (U.ahead random.new)) }
-    ensures cut { IsErrOf result Stop.Sink → IsOn (record { told = F.told; runs = F.runs; goes = F.goes; falls = F.falls }) shape.now fabric.old fabric.new (λ tie. WasCutOff shape.now tie (outside_of (S.left input.old) (S.left input.new) (K.taken output.old) (K.taken output.new) (U.ahead random.old) (U.ahead random.new))) }
-    ensures refused { IsErrOf result Stop.Memory → (words : _) × WasOn (record { told = F.told; runs = F.runs; goes = F.goes; falls = F.falls }) shape.now fabric.old fabric.new (λ tie. HasStopped shape.now tie (outside_of (S.left input.old) (S.left input.new) (K.taken output.old) (K.taken output.new) (U.ahead random.old) (U.ahead random.new)) words) }
+    ensures stopped { IsErrOf result Stop.Source → IsOn F.told shape.now fabric.new (λ tie. HasStopped shape.now tie (outside_of (S.left input.old) (S.left input.new) (K.taken output.old) (K.taken output.new) (U.ahead random.old) (U.ahead random.new)) (U.ahead random.new)) }
+    ensures cut { IsErrOf result Stop.Sink → IsOn F.told shape.now fabric.new (λ tie. WasCutOff shape.now tie (outside_of (S.left input.old) (S.left input.new) (K.taken output.old) (K.taken output.new) (U.ahead random.old) (U.ahead random.new))) }
+    ensures refused { IsErrOf result Stop.Memory → (words : _) × WasOn F.faults F.opened F.runs F.advances F.told shape.now fabric.old fabric.new (λ tie. HasStopped shape.now tie (outside_of (S.left input.old) (S.left input.new) (K.taken output.old) (K.taken output.new) (U.ahead random.old) (U.ahead random.new)) words) }
     ensures source { IsErrOf result Stop.Source → Rose (S.faults input.old) (S.faults input.new) }
     ensures sink { IsErrOf result Stop.Sink → Rose (K.faults output.old) (K.faults output.new) }
-    ensures opened { F.opened fabric.new ≡ F.opened fabric.old }
-    ensures falls { F.falls fabric.old fabric.new }
+    ensures net { Advances F.faults F.opened F.runs F.advances fabric.old fabric.new (found_memory result) }
 {
     let mut session = Session::new(alloc, *shape);
     let ending = run_lines(alloc, &mut session, fabric, input, output, random)?;
@@ -71,16 +70,12 @@ fn finish<K: Sink, F: Fabric>(
     requires open { F.opened fabric.old ≡ Some session.old.router.shape }
     ensures ok { OnOk result (Closes session.old session.new (ties_of session.old.router (F.told fabric.old)) (ties_of session.new.router (F.told fabric.new)) (K.taken output.old) (K.taken output.new) IsAll) }
     ensures cut { IsErrOf result Stop.Sink → Closes session.old session.new (ties_of session.old.router (F.told fabric.old)) (ties_of session.new.router (F.told fabric.new)) (K.taken output.old) (K.taken output.new) IsSome }
-    ensures cut_goes { IsErrOf result Stop.Sink → F.goes fabric.old fabric.new }
     ensures shape { session.new.router.shape ≡ session.old.router.shape }
     ensures memory { IsErrOf result Stop.Memory → Appends (K.taken output.old) (K.taken output.new) [] }
     ensures source { IfErr result (λ e. e ≢ Stop.Source) }
     ensures later { K.faults output.old ≤ K.faults output.new }
     ensures sink { IsErrOf result Stop.Sink → Rose (K.faults output.old) (K.faults output.new) }
-    ensures opened { F.opened fabric.new ≡ F.opened fabric.old }
-    ensures run { StillRuns (record { told = F.told; runs = F.runs; goes = F.goes; falls = F.falls }) fabric.old fabric.new }
-    ensures goes { OnOk result (F.goes fabric.old fabric.new) }
-    ensures falls { F.falls fabric.old fabric.new }
+    ensures net { Advances F.faults F.opened F.runs F.advances fabric.old fabric.new (found_memory result) }
 {
     let mut out = Vec::new(alloc);
     session.finish(alloc, fabric, &mut out)?;
@@ -135,15 +130,11 @@ fn run_line<K: Sink, U: Random, F: Fabric>(
     ensures ready { OnOk result (IsReady session.new) }
     ensures shape { session.new.router.shape ≡ session.old.router.shape }
     ensures cut { IsErrOf result Stop.Sink → RunsLine session.old.router.shape line.now session.old session.new (ties_of session.old.router (F.told fabric.old)) (ties_of session.new.router (F.told fabric.new)) (U.ahead random.old) (U.ahead random.new) (K.taken output.old) (K.taken output.new) IsSome }
-    ensures cut_goes { IsErrOf result Stop.Sink → F.goes fabric.old fabric.new }
     ensures memory { IsErrOf result Stop.Memory → Appends (K.taken output.old) (K.taken output.new) [] }
     ensures source { IfErr result (λ e. e ≢ Stop.Source) }
     ensures later { K.faults output.old ≤ K.faults output.new }
     ensures cause { IsErrOf result Stop.Sink → Rose (K.faults output.old) (K.faults output.new) }
-    ensures opened { F.opened fabric.new ≡ F.opened fabric.old }
-    ensures run { StillRuns (record { told = F.told; runs = F.runs; goes = F.goes; falls = F.falls }) fabric.old fabric.new }
-    ensures goes { OnOk result (F.goes fabric.old fabric.new) }
-    ensures falls { F.falls fabric.old fabric.new }
+    ensures net { Advances F.faults F.opened F.runs F.advances fabric.old fabric.new (found_memory result) }
 {
     let mut out = Vec::new(alloc);
     let goes_on = session.carry_out(alloc, line, random, fabric, &mut out)?;
@@ -170,16 +161,13 @@ fn run_lines<S: Source, K: Sink, U: Random, F: Fabric>(
     ensures ran { IfOk result (λ ending. RanLines session.old.router.shape (S.left input.old) (S.left input.new) (K.taken output.old) (K.taken output.new) session.new (ties_of session.new.router (F.told fabric.new)) (U.ahead random.old) (U.ahead random.new) ending) }
     ensures ready { OnOk result (IsReady session.new) }
     ensures shape { session.new.router.shape ≡ session.old.router.shape }
-    ensures stopped { IsErrOf result Stop.Source → IsOn (record { told = F.told; runs = F.runs; goes = F.goes; falls = F.falls }) session.old.router.shape fabric.old fabric.new (λ tie. HasStopped session.old.router.shape tie (outside_of (S.left input.old) (S.left input.new) (K.taken output.old) (K.taken output.new) (U.ahead random.old) (U.ahead random.new)) (U.ahead random.new)) }
-    ensures cut { IsErrOf result Stop.Sink → IsOn (record { told = F.told; runs = F.runs; goes = F.goes; falls = F.falls }) session.old.router.shape fabric.old fabric.new (λ tie. WasCutOff session.old.router.shape tie (outside_of (S.left input.old) (S.left input.new) (K.taken output.old) (K.taken output.new) (U.ahead random.old) (U.ahead random.new))) }
-    ensures refused { IsErrOf result Stop.Memory → (words : _) × WasOn (record { told = F.told; runs = F.runs; goes = F.goes; falls = F.falls }) session.old.router.shape fabric.old fabric.new (λ tie. HasStopped session.old.router.shape tie (outside_of (S.left input.old) (S.left input.new) (K.taken output.old) (K.taken output.new) (U.ahead random.old) (U.ahead random.new)) words) }
+    ensures stopped { IsErrOf result Stop.Source → IsOn F.told session.old.router.shape fabric.new (λ tie. HasStopped session.old.router.shape tie (outside_of (S.left input.old) (S.left input.new) (K.taken output.old) (K.taken output.new) (U.ahead random.old) (U.ahead random.new)) (U.ahead random.new)) }
+    ensures cut { IsErrOf result Stop.Sink → IsOn F.told session.old.router.shape fabric.new (λ tie. WasCutOff session.old.router.shape tie (outside_of (S.left input.old) (S.left input.new) (K.taken output.old) (K.taken output.new) (U.ahead random.old) (U.ahead random.new))) }
+    ensures refused { IsErrOf result Stop.Memory → (words : _) × WasOn F.faults F.opened F.runs F.advances F.told session.old.router.shape fabric.old fabric.new (λ tie. HasStopped session.old.router.shape tie (outside_of (S.left input.old) (S.left input.new) (K.taken output.old) (K.taken output.new) (U.ahead random.old) (U.ahead random.new)) words) }
     ensures source { IsErrOf result Stop.Source → Rose (S.faults input.old) (S.faults input.new) }
     ensures sink { IsErrOf result Stop.Sink → Rose (K.faults output.old) (K.faults output.new) }
     ensures later { K.faults output.old ≤ K.faults output.new }
-    ensures opened { F.opened fabric.new ≡ F.opened fabric.old }
-    ensures run { StillRuns (record { told = F.told; runs = F.runs; goes = F.goes; falls = F.falls }) fabric.old fabric.new }
-    ensures goes { OnOk result (F.goes fabric.old fabric.new) }
-    ensures falls { F.falls fabric.old fabric.new }
+    ensures net { Advances F.faults F.opened F.runs F.advances fabric.old fabric.new (found_memory result) }
 {
     let mut reader = LineReader::new(alloc)?;
     'lines: loop {

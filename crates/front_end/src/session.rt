@@ -2,6 +2,7 @@
 
 ghost use Rattle.std.specs.Prelude.{◌≡◌, ◌≢◌, MatchBool, ◌≤◌, ◌<◌, ◌+◌, ◌-◌, ◌^◌, ◌++◌, ◌∷◌, [], List, ℕ, length, true, false, OnOk, IfOk, Some, None, Option, slice_set, IfSome};
 ghost use Rattle.std.specs.List.{AllByRecursion};
+ghost use Rattle.std.specs.Result.{is_ok};
 ghost use Rattle.outside.specs.Causes.{Rose};
 ghost use Rattle.quorum_op.specs.declared.outcome.Outcome.TheVariants as outcome;
 ghost use Rattle.world_model.specs.declared.history.Begun.{Begun};
@@ -10,14 +11,14 @@ ghost use Rattle.world_model.specs.declared.history.HistoryMark.TheVariants.{Beg
 ghost use Rattle.world_model.specs.declared.order.Order.{Order};
 ghost use Rattle.world_model.specs.declared.shape.Shape.{Shape};
 ghost use Rattle.world_model.specs.declared.step.Called.{Called};
-ghost use Rattle.world_model.specs.Fabric.{KeepsRun};
+ghost use Rattle.world_model.specs.Advancing.{Advances};
 ghost use Rattle.world_model.specs.Pieces.{is_composite, is_simple};
 ghost use Rattle.world_model.specs.Shape.{IsShape};
 ghost use Rattle.front_end.specs.declared.history.Entry.TheVariants.{Mark, Bad};
 ghost use Rattle.front_end.specs.declared.script.Command.TheVariants.{End as TheEnd};
 ghost use Rattle.front_end.specs.Outline.{outline_begun, outline_entry};
 ghost use Rattle.front_end.specs.Script.{command_of, tag_number};
-ghost use Rattle.router_core.specs.Stands.{Stands, is_idle};
+ghost use Rattle.router_core.specs.Stands.{Stands, is_idle, live_in};
 ghost use Rattle.front_end.specs.Transcript.{entry_line};
 ghost use Rattle.front_end.specs.Outline.{IsPlain};
 ghost use Rattle.front_end.specs.Past.{answer_in, is_to_node, meant_by, named_by};
@@ -32,7 +33,7 @@ use outside::Random;
 use quorum_op::Outcome;
 use router_core::{Ended, Router};
 use std::alloc::Global;
-use world_model::{Begun, Fabric, HistoryMark, Order, SendFault, Shape};
+use world_model::{Begun, Fabric, HistoryMark, Order, Shape};
 
 /// What a session keeps.
 #[derive(Drop)]
@@ -67,7 +68,7 @@ impl Session {
             settled: Listed::new(alloc),
             later: Listed::new(alloc),
             answers: Vec::new(alloc),
-            router: Router::new(shape),
+            router: Router::new(alloc, shape),
         }
     }
 
@@ -81,15 +82,12 @@ impl Session {
         requires ready { IsReady self.old }
         requires open { F.opened fabric.old ≡ Some self.old.router.shape }
         ensures finished { OnOk result (Finishes self.old self.new (ties_of self.old.router (F.told fabric.old)) (ties_of self.new.router (F.told fabric.new)) out.old.items out.new.items) }
-        ensures idle { OnOk result (is_idle self.new.router.stage ≡ true) }
+        ensures idle { OnOk result (is_idle (live_in self.new.router.stages) ≡ true) }
         ensures lines { OnOk result (self.new.lines ≡ self.old.lines) }
         ensures tags { OnOk result (self.new.tags ≡ self.old.tags) }
         ensures ready { OnOk result (IsReady self.new) }
         ensures shape { self.new.router.shape ≡ self.old.router.shape }
-        ensures opened { F.opened fabric.new ≡ F.opened fabric.old }
-        ensures run { (cluster : Shape) (place : List ℕ) → KeepsRun (F.runs fabric.old cluster place) (F.runs fabric.new cluster place) }
-        ensures goes { OnOk result (F.goes fabric.old fabric.new) }
-        ensures falls { F.falls fabric.old fabric.new }
+        ensures net { Advances F.faults F.opened F.runs F.advances fabric.old fabric.new (is_ok result) }
     {
         match self.router.finish(alloc, fabric)? {
             None => Ok(()),
@@ -207,7 +205,7 @@ impl Session {
         out: &mut Vec<u8>,
     ) -> Result<(), Memory>
         requires begun { self.old.router.begun + 1 ≡ length self.old.tags }
-        requires idle { is_idle self.old.router.stage ≡ true }
+        requires idle { is_idle (live_in self.old.router.stages) ≡ true }
         requires number { length self.old.tags < 2 ^ 31 }
         requires limit { length body ≤ 65536 }
         requires chunk { self.old.router.shape.chunk ≡ 65536 }
@@ -219,10 +217,7 @@ impl Session {
         ensures tags { OnOk result (self.new.tags ≡ self.old.tags) }
         ensures ready { OnOk result (IsReady self.new) }
         ensures shape { self.new.router.shape ≡ self.old.router.shape }
-        ensures opened { F.opened fabric.new ≡ F.opened fabric.old }
-        ensures run { (cluster : Shape) (place : List ℕ) → KeepsRun (F.runs fabric.old cluster place) (F.runs fabric.new cluster place) }
-        ensures goes { OnOk result (F.goes fabric.old fabric.new) }
-        ensures falls { F.falls fabric.old fabric.new }
+        ensures net { Advances F.faults F.opened F.runs F.advances fabric.old fabric.new (is_ok result) }
     {
         let high = random.word();
         let low = random.word();
@@ -244,7 +239,7 @@ impl Session {
         out: &mut Vec<u8>,
     ) -> Result<(), Memory>
         requires begun { self.old.router.begun + 1 ≡ length self.old.tags }
-        requires idle { is_idle self.old.router.stage ≡ true }
+        requires idle { is_idle (live_in self.old.router.stages) ≡ true }
         requires number { length self.old.tags < 2 ^ 31 }
         requires chunk { self.old.router.shape.chunk ≡ 65536 }
         requires few { self.old.router.shape.partitions ≤ 64 }
@@ -256,13 +251,10 @@ impl Session {
         ensures tags { OnOk result (self.new.tags ≡ self.old.tags) }
         ensures ready { OnOk result (IsReady self.new) }
         ensures shape { self.new.router.shape ≡ self.old.router.shape }
-        ensures opened { F.opened fabric.new ≡ F.opened fabric.old }
-        ensures run { (cluster : Shape) (place : List ℕ) → KeepsRun (F.runs fabric.old cluster place) (F.runs fabric.new cluster place) }
-        ensures goes { OnOk result (F.goes fabric.old fabric.new) }
-        ensures falls { F.falls fabric.old fabric.new }
+        ensures net { Advances F.faults F.opened F.runs F.advances fabric.old fabric.new (is_ok result) }
     {
         if body.len() > self.router.limit() as usize {
-            self.router.put_too_large(body.len() as u64);
+            self.router.put_too_large(body.len() as u64)?;
             return Ok(());
         }
         self.store(alloc, body, random, fabric, out)?;
@@ -288,10 +280,7 @@ impl Session {
             → CarriesOut self.old.router.shape line self.old self.new (ties_of self.old.router (F.told fabric.old)) (ties_of self.new.router (F.told fabric.new)) (U.ahead random.old) (U.ahead random.new) out.old.items out.new.items) }
         ensures ready { OnOk result (IsReady self.new) }
         ensures shape { self.new.router.shape ≡ self.old.router.shape }
-        ensures opened { F.opened fabric.new ≡ F.opened fabric.old }
-        ensures run { (cluster : Shape) (place : List ℕ) → KeepsRun (F.runs fabric.old cluster place) (F.runs fabric.new cluster place) }
-        ensures goes { OnOk result (F.goes fabric.old fabric.new) }
-        ensures falls { F.falls fabric.old fabric.new }
+        ensures net { Advances F.faults F.opened F.runs F.advances fabric.old fabric.new (is_ok result) }
     {
         self.finish(alloc, fabric, out)?;
         let begun = Begun::Put {
@@ -325,10 +314,7 @@ impl Session {
             → CarriesOut self.old.router.shape line self.old self.new (ties_of self.old.router (F.told fabric.old)) (ties_of self.new.router (F.told fabric.new)) words words out.old.items out.new.items) }
         ensures ready { OnOk result (IsReady self.new) }
         ensures shape { self.new.router.shape ≡ self.old.router.shape }
-        ensures opened { F.opened fabric.new ≡ F.opened fabric.old }
-        ensures run { (cluster : Shape) (place : List ℕ) → KeepsRun (F.runs fabric.old cluster place) (F.runs fabric.new cluster place) }
-        ensures goes { OnOk result (F.goes fabric.old fabric.new) }
-        ensures falls { F.falls fabric.old fabric.new }
+        ensures net { Advances F.faults F.opened F.runs F.advances fabric.old fabric.new (is_ok result) }
     {
         self.finish(alloc, fabric, out)?;
         let id = self.meant(&of);
@@ -357,10 +343,7 @@ impl Session {
             → CarriesOut self.old.router.shape line self.old self.new (ties_of self.old.router (F.told fabric.old)) (ties_of self.new.router (F.told fabric.new)) words words out.old.items out.new.items) }
         ensures ready { OnOk result (IsReady self.new) }
         ensures shape { self.new.router.shape ≡ self.old.router.shape }
-        ensures opened { F.opened fabric.new ≡ F.opened fabric.old }
-        ensures run { (cluster : Shape) (place : List ℕ) → KeepsRun (F.runs fabric.old cluster place) (F.runs fabric.new cluster place) }
-        ensures goes { OnOk result (F.goes fabric.old fabric.new) }
-        ensures falls { F.falls fabric.old fabric.new }
+        ensures net { Advances F.faults F.opened F.runs F.advances fabric.old fabric.new (is_ok result) }
     {
         self.finish(alloc, fabric, out)?;
         let id = self.meant(&of);
@@ -384,10 +367,7 @@ impl Session {
             → CarriesOut self.old.router.shape line self.old self.new (ties_of self.old.router (F.told fabric.old)) (ties_of self.new.router (F.told fabric.new)) words words out.old.items out.new.items) }
         ensures ready { OnOk result (IsReady self.new) }
         ensures shape { self.new.router.shape ≡ self.old.router.shape }
-        ensures opened { F.opened fabric.new ≡ F.opened fabric.old }
-        ensures run { (cluster : Shape) (place : List ℕ) → KeepsRun (F.runs fabric.old cluster place) (F.runs fabric.new cluster place) }
-        ensures goes { OnOk result (F.goes fabric.old fabric.new) }
-        ensures falls { F.falls fabric.old fabric.new }
+        ensures net { Advances F.faults F.opened F.runs F.advances fabric.old fabric.new (is_ok result) }
     {
         self.settled.push(Entry::Mark(HistoryMark::Wait(None)))?;
         self.finish(alloc, fabric, out)?;
@@ -412,15 +392,11 @@ impl Session {
         ensures failed { OnOk result (HasFailed self.old self.new order → Rose (F.faults fabric.old) (F.faults fabric.new)) }
         ensures ready { OnOk result (IsReady self.new) }
         ensures shape { self.new.router.shape ≡ self.old.router.shape }
-        ensures opened { F.opened fabric.new ≡ F.opened fabric.old }
-        ensures run { (cluster : Shape) (place : List ℕ) → KeepsRun (F.runs fabric.old cluster place) (F.runs fabric.new cluster place) }
-        ensures goes { OnOk result (F.goes fabric.old fabric.new) }
-        ensures falls { F.falls fabric.old fabric.new }
+        ensures net { Advances F.faults F.opened F.runs F.advances fabric.old fabric.new (is_ok result) }
     {
-        match self.router.order(alloc, &order, fabric) {
-            Ok(told) => self.add(Entry::Mark(HistoryMark::Ordered { order, told }), out),
-            Err(SendFault::Failed) => self.add(Entry::Failed(order), out),
-            Err(SendFault::Memory) => Err(Memory),
+        match self.router.order(alloc, &order, fabric)? {
+            Some(told) => self.add(Entry::Mark(HistoryMark::Ordered { order, told }), out),
+            None => self.add(Entry::Failed(order), out),
         }
     }
 
@@ -441,10 +417,7 @@ impl Session {
         ensures failed { OnOk result (HasFailed self.old self.new order → Rose (F.faults fabric.old) (F.faults fabric.new)) }
         ensures ready { OnOk result (IsReady self.new) }
         ensures shape { self.new.router.shape ≡ self.old.router.shape }
-        ensures opened { F.opened fabric.new ≡ F.opened fabric.old }
-        ensures run { (cluster : Shape) (place : List ℕ) → KeepsRun (F.runs fabric.old cluster place) (F.runs fabric.new cluster place) }
-        ensures goes { OnOk result (F.goes fabric.old fabric.new) }
-        ensures falls { F.falls fabric.old fabric.new }
+        ensures net { Advances F.faults F.opened F.runs F.advances fabric.old fabric.new (is_ok result) }
     {
         if !is_to_node(self.router.nodes(), &order) {
             return self.refuse(out);
@@ -473,10 +446,7 @@ impl Session {
         ensures tags { OnOk result (length self.new.tags ≤ self.new.lines) }
         ensures ready { OnOk result (IsReady self.new) }
         ensures shape { self.new.router.shape ≡ self.old.router.shape }
-        ensures opened { F.opened fabric.new ≡ F.opened fabric.old }
-        ensures run { (cluster : Shape) (place : List ℕ) → KeepsRun (F.runs fabric.old cluster place) (F.runs fabric.new cluster place) }
-        ensures goes { OnOk result (F.goes fabric.old fabric.new) }
-        ensures falls { F.falls fabric.old fabric.new }
+        ensures net { Advances F.faults F.opened F.runs F.advances fabric.old fabric.new (is_ok result) }
         ensures goes_on { IfOk result (λ more. MatchBool more (command_of self.old.tags line.now ≢ Some TheEnd) (command_of self.old.tags line.now ≡ Some TheEnd)) }
     {
         self.lines += 1;

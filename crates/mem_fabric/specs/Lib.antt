@@ -1,4 +1,5 @@
 pub mod Network
+pub mod Offers
 pub mod Played
 pub mod Past
 pub mod Asking
@@ -10,3 +11,5 @@ pub mod Going
 pub mod Acting
 pub mod GoingLaws
 pub mod PlayedLaws
+pub mod Advancing
+pub mod AdvancingLaws

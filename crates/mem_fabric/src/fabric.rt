@@ -2,21 +2,25 @@
 
 ghost use Rattle.std.specs.Prelude.{◌≡◌, ℕ, ◌≤◌, List, [], true, false, Some, None, IsSome, IfOk, OnOk, OnErr, IsErrOf, cond};
 ghost use Rattle.std.specs.Option.{is_some};
+ghost use Rattle.std.specs.Result.{is_ok};
 ghost use Rattle.lab_nodes.specs.Layouts.{HomeHasLayouts, Layouts};
 ghost use Rattle.lab_nodes.specs.Nodes.{HomeHolds, is_up, never_opened};
 ghost use Rattle.lab_nodes.specs.Spots.{DiskFailed, HasFailed};
 ghost use Rattle.lab_nodes.specs.Starting.{IsFirst};
 ghost use Rattle.lab_nodes.specs.declared.places.Which.{Which};
 ghost use Rattle.outside.specs.Causes.{Rose};
-ghost use Rattle.mem_fabric.specs.Going.{AreNodesOf, GoesOn, HasTornBy, KeepsBays};
+ghost use Rattle.mem_fabric.specs.Advancing.{PlaysOver};
+ghost use Rattle.mem_fabric.specs.AdvancingLaws.{over_nothing, over_on, over_anyhow};
+ghost use Rattle.mem_fabric.specs.Going.{AreNodesOf, HasTornBy};
 ghost use Rattle.mem_fabric.specs.Network.{is_stopped};
-ghost use Rattle.mem_fabric.specs.Packing.{KeepsPacking, PacksFrom};
+ghost use Rattle.mem_fabric.specs.Packing.{PacksFrom};
 ghost use Rattle.mem_fabric.specs.Past.{calls_of};
-ghost use Rattle.mem_fabric.specs.Played.{Plays, Falls, AtMostOne};
+ghost use Rattle.mem_fabric.specs.Played.{AtMostOne};
 ghost use Rattle.mem_fabric.specs.Runs.{RunsFrom};
 ghost use Rattle.mem_fabric.specs.Sound.{fresh_state, network_of};
-ghost use Rattle.mem_fabric.specs.PlayedLaws.{plays_nothing, plays_on, falls_as_plays, falls_on, fresh_told};
+ghost use Rattle.mem_fabric.specs.PlayedLaws.{fresh_told};
 ghost use Rattle.mem_fabric.specs.Torn.{has_torn};
+ghost use Rattle.world_model.specs.Advancing.{Advances, is_whole};
 ghost use Rattle.world_model.specs.Fabric.{Gave, HasNode, IsOpening, KeepsRun, NoStepWhereOneWaited, TakesOrder, Tells, TellsOrder, TellsSend};
 ghost use Rattle.world_model.specs.declared.order.PullCause.{PullCause};
 ghost use Rattle.world_model.specs.declared.order.Refusal.{Refusal};
@@ -98,12 +102,9 @@ where
     fn move_on(&mut self) -> Result<Event, Memory>
         requires open { IsSome (cond self.old.opened self.old.cluster.shape None) }
         requires calm { self.old.cluster.queue ≡ [] }
-        ensures opened { cond self.new.opened self.new.cluster.shape None ≡ cond self.old.opened self.old.cluster.shape None }
         ensures told { IfOk result (λ event. Tells (Some (calls_of self.old.cluster.past)) (Some (calls_of self.new.cluster.past)) (Gave event)) }
         ensures err { OnErr result (Some (calls_of self.new.cluster.past) ≡ Some (calls_of self.old.cluster.past)) }
-        ensures run { (cluster : Shape) (place : List ℕ) → KeepsRun (RunsFrom B.Disk.tells B.Disk.content B.home (calls_of self.old.cluster.past) self.old.nodes cluster place) (RunsFrom B.Disk.tells B.Disk.content B.home (calls_of self.new.cluster.past) self.new.nodes cluster place) }
-        ensures goes { OnOk result (Plays (M.given self.old.moves) (network_of self.old.cluster) (M.given self.new.moves) (network_of self.new.cluster) × M.same self.old.moves self.new.moves × (M.seeds self.new.moves ≡ M.seeds self.old.moves) × KeepsBays B.tells B.out B.same self.old.nodes self.new.nodes × KeepsPacking B.Disk.tells B.Disk.content B.home (calls_of self.old.cluster.past) self.old.nodes (calls_of self.new.cluster.past) self.new.nodes) }
-        ensures falls { Falls (M.given self.old.moves) (network_of self.old.cluster) (M.given self.new.moves) (network_of self.new.cluster) × M.same self.old.moves self.new.moves × (M.seeds self.new.moves ≡ M.seeds self.old.moves) × KeepsBays B.tells B.out B.same self.old.nodes self.new.nodes × KeepsPacking B.Disk.tells B.Disk.content B.home (calls_of self.old.cluster.past) self.old.nodes (calls_of self.new.cluster.past) self.new.nodes }
+        ensures net { Advances ⟦<Self as Fabric>⟧.faults ⟦<Self as Fabric>⟧.opened ⟦<Self as Fabric>⟧.runs ⟦<Self as Fabric>⟧.advances self.old self.new (is_ok result) }
         ensures most { OnErr result (AtMostOne (M.given self.old.moves) (M.given self.new.moves)) }
         ensures count { self.new.faults ≡ self.old.faults }
     {
@@ -123,9 +124,6 @@ impl<B: Bays, M: Moves> Fabric for MemFabric<B, M>
 where
     B::Disk: Drop,
 {
-    ghost use Rattle.std.proofs.Common.{◌∙◌, refl};
-    ghost use Rattle.mem_fabric.specs.GoingLaws.{bays_stay, bays_on, packing_stays, packing_on};
-
     ghost faults = { λ f. f.faults };
 
     ghost fresh = { λ f. f.fresh };
@@ -138,9 +136,7 @@ where
 
     ghost runs = { λ f shape folder opening. RunsFrom B.Disk.tells B.Disk.content B.home (calls_of f.cluster.past) f.nodes shape folder opening };
 
-    ghost goes = { λ f g. Plays (M.given f.moves) (network_of f.cluster) (M.given g.moves) (network_of g.cluster) × M.same f.moves g.moves × (M.seeds g.moves ≡ M.seeds f.moves) × KeepsBays B.tells B.out B.same f.nodes g.nodes × KeepsPacking B.Disk.tells B.Disk.content B.home (calls_of f.cluster.past) f.nodes (calls_of g.cluster.past) g.nodes };
-
-    ghost falls = { λ f g. Falls (M.given f.moves) (network_of f.cluster) (M.given g.moves) (network_of g.cluster) × M.same f.moves g.moves × (M.seeds g.moves ≡ M.seeds f.moves) × KeepsBays B.tells B.out B.same f.nodes g.nodes × KeepsPacking B.Disk.tells B.Disk.content B.home (calls_of f.cluster.past) f.nodes (calls_of g.cluster.past) g.nodes };
+    ghost advances = { λ f g whole. PlaysOver B.tells B.Disk.tells B.Disk.content B.home B.out B.same M.given M.seeds M.same f.moves f.cluster f.nodes g.moves g.cluster g.nodes whole };
 
     /// Opens it for a shape whose disks lie in a folder, all or none: the first disk that isn't opened decides, by node and then by
     /// partition. It is tried once.
@@ -153,8 +149,7 @@ where
         ensures told { OnOk result (Tells (Some (calls_of self.old.cluster.past)) (Some (calls_of self.new.cluster.past)) IsOpening) }
         ensures err { OnErr result (Some (calls_of self.new.cluster.past) ≡ Some (calls_of self.old.cluster.past)) }
         ensures run { OnOk result (KeepsRun (RunsFrom B.Disk.tells B.Disk.content B.home (calls_of self.old.cluster.past) self.old.nodes shape.now folder.now) (RunsFrom B.Disk.tells B.Disk.content B.home (calls_of self.new.cluster.past) self.new.nodes shape.now folder.now)) }
-        ensures goes { OnOk result (Plays (M.given self.old.moves) (network_of self.old.cluster) (M.given self.new.moves) (network_of self.new.cluster) × M.same self.old.moves self.new.moves × (M.seeds self.new.moves ≡ M.seeds self.old.moves) × KeepsBays B.tells B.out B.same self.old.nodes self.new.nodes × KeepsPacking B.Disk.tells B.Disk.content B.home (calls_of self.old.cluster.past) self.old.nodes (calls_of self.new.cluster.past) self.new.nodes) }
-        ensures falls { Falls (M.given self.old.moves) (network_of self.old.cluster) (M.given self.new.moves) (network_of self.new.cluster) × M.same self.old.moves self.new.moves × (M.seeds self.new.moves ≡ M.seeds self.old.moves) × KeepsBays B.tells B.out B.same self.old.nodes self.new.nodes × KeepsPacking B.Disk.tells B.Disk.content B.home (calls_of self.old.cluster.past) self.old.nodes (calls_of self.new.cluster.past) self.new.nodes }
+        ensures net { ⟦<Self as Fabric>⟧.advances self.old self.new (is_ok result) }
         ensures count { (IsErrOf result StartFault.Failed → ⊥) → self.new.faults ≡ self.old.faults }
         ensures failed { IsErrOf result StartFault.Failed → HasFailed B.Disk.faults (B.faults self.old.nodes.bays) (B.faults self.new.nodes.bays) }
         ensures refused { (refusal : Refusal) → IsErrOf result (StartFault.Refused refusal) → B.tells → IsFirst B.Disk.tells B.Disk.content B.Disk.size Which.All shape.now folder.now (B.home self.old.nodes.bays) refusal }
@@ -184,13 +179,9 @@ where
     /// Sends a request to a node. `Failed` comes exactly for a stopped node, unless memory runs out.
     fn send(&mut self, node: u32, frame: &[u8]) -> Result<(), SendFault>
         requires node { HasNode (cond self.old.opened self.old.cluster.shape None) node }
-        ensures later { self.old.faults ≤ self.new.faults }
+        ensures net { Advances ⟦<Self as Fabric>⟧.faults ⟦<Self as Fabric>⟧.opened ⟦<Self as Fabric>⟧.runs ⟦<Self as Fabric>⟧.advances self.old self.new (is_whole result) }
         ensures cause { IsErrOf result SendFault.Failed → Rose self.old.faults self.new.faults }
-        ensures opened { cond self.new.opened self.new.cluster.shape None ≡ cond self.old.opened self.old.cluster.shape None }
         ensures told { TellsSend result (Some (calls_of self.old.cluster.past)) (Some (calls_of self.new.cluster.past)) node frame.now }
-        ensures run { (cluster : Shape) (place : List ℕ) → KeepsRun (RunsFrom B.Disk.tells B.Disk.content B.home (calls_of self.old.cluster.past) self.old.nodes cluster place) (RunsFrom B.Disk.tells B.Disk.content B.home (calls_of self.new.cluster.past) self.new.nodes cluster place) }
-        ensures goes { (IsErrOf result SendFault.Memory → ⊥) → Plays (M.given self.old.moves) (network_of self.old.cluster) (M.given self.new.moves) (network_of self.new.cluster) × M.same self.old.moves self.new.moves × (M.seeds self.new.moves ≡ M.seeds self.old.moves) × KeepsBays B.tells B.out B.same self.old.nodes self.new.nodes × KeepsPacking B.Disk.tells B.Disk.content B.home (calls_of self.old.cluster.past) self.old.nodes (calls_of self.new.cluster.past) self.new.nodes }
-        ensures falls { Falls (M.given self.old.moves) (network_of self.old.cluster) (M.given self.new.moves) (network_of self.new.cluster) × M.same self.old.moves self.new.moves × (M.seeds self.new.moves ≡ M.seeds self.old.moves) × KeepsBays B.tells B.out B.same self.old.nodes self.new.nodes × KeepsPacking B.Disk.tells B.Disk.content B.home (calls_of self.old.cluster.past) self.old.nodes (calls_of self.new.cluster.past) self.new.nodes }
         ensures refused { IsErrOf result SendFault.Failed → is_stopped (network_of self.old.cluster) node ≡ true }
         ensures ok { OnOk result (is_stopped (network_of self.old.cluster) node ≡ false) }
         ensures count { (IsErrOf result SendFault.Failed → ⊥) → self.new.faults ≡ self.old.faults }
@@ -215,14 +206,10 @@ where
     /// one move at most, and it was not made.
     fn next(&mut self) -> Result<Event, Memory>
         requires open { IsSome (cond self.old.opened self.old.cluster.shape None) }
-        ensures later { self.old.faults ≤ self.new.faults }
-        ensures opened { cond self.new.opened self.new.cluster.shape None ≡ cond self.old.opened self.old.cluster.shape None }
+        ensures net { Advances ⟦<Self as Fabric>⟧.faults ⟦<Self as Fabric>⟧.opened ⟦<Self as Fabric>⟧.runs ⟦<Self as Fabric>⟧.advances self.old self.new (is_ok result) }
         ensures told { IfOk result (λ event. Tells (Some (calls_of self.old.cluster.past)) (Some (calls_of self.new.cluster.past)) (Gave event)) }
         ensures waited { OnOk result (NoStepWhereOneWaited (Some (calls_of self.old.cluster.past)) (Some (calls_of self.new.cluster.past))) }
         ensures err { OnErr result (Some (calls_of self.new.cluster.past) ≡ Some (calls_of self.old.cluster.past)) }
-        ensures run { (cluster : Shape) (place : List ℕ) → KeepsRun (RunsFrom B.Disk.tells B.Disk.content B.home (calls_of self.old.cluster.past) self.old.nodes cluster place) (RunsFrom B.Disk.tells B.Disk.content B.home (calls_of self.new.cluster.past) self.new.nodes cluster place) }
-        ensures goes { OnOk result (Plays (M.given self.old.moves) (network_of self.old.cluster) (M.given self.new.moves) (network_of self.new.cluster) × M.same self.old.moves self.new.moves × (M.seeds self.new.moves ≡ M.seeds self.old.moves) × KeepsBays B.tells B.out B.same self.old.nodes self.new.nodes × KeepsPacking B.Disk.tells B.Disk.content B.home (calls_of self.old.cluster.past) self.old.nodes (calls_of self.new.cluster.past) self.new.nodes) }
-        ensures falls { Falls (M.given self.old.moves) (network_of self.old.cluster) (M.given self.new.moves) (network_of self.new.cluster) × M.same self.old.moves self.new.moves × (M.seeds self.new.moves ≡ M.seeds self.old.moves) × KeepsBays B.tells B.out B.same self.old.nodes self.new.nodes × KeepsPacking B.Disk.tells B.Disk.content B.home (calls_of self.old.cluster.past) self.old.nodes (calls_of self.new.cluster.past) self.new.nodes }
         ensures most { OnErr result (AtMostOne (M.given self.old.moves) (M.given self.new.moves)) }
         ensures count { self.new.faults ≡ self.old.faults }
     {
@@ -236,13 +223,9 @@ where
     /// Stops a node, or lets it run again, unless its disks aren't opened.
     fn admin(&mut self, order: &Order) -> Result<Told, SendFault>
         requires order { TakesOrder (cond self.old.opened self.old.cluster.shape None) order.now }
-        ensures later { self.old.faults ≤ self.new.faults }
+        ensures net { Advances ⟦<Self as Fabric>⟧.faults ⟦<Self as Fabric>⟧.opened ⟦<Self as Fabric>⟧.runs ⟦<Self as Fabric>⟧.advances self.old self.new (is_whole result) }
         ensures cause { IsErrOf result SendFault.Failed → Rose self.old.faults self.new.faults }
-        ensures opened { cond self.new.opened self.new.cluster.shape None ≡ cond self.old.opened self.old.cluster.shape None }
         ensures told { TellsOrder result (Some (calls_of self.old.cluster.past)) (Some (calls_of self.new.cluster.past)) order.now }
-        ensures run { (cluster : Shape) (place : List ℕ) → KeepsRun (RunsFrom B.Disk.tells B.Disk.content B.home (calls_of self.old.cluster.past) self.old.nodes cluster place) (RunsFrom B.Disk.tells B.Disk.content B.home (calls_of self.new.cluster.past) self.new.nodes cluster place) }
-        ensures goes { (IsErrOf result SendFault.Memory → ⊥) → Plays (M.given self.old.moves) (network_of self.old.cluster) (M.given self.new.moves) (network_of self.new.cluster) × M.same self.old.moves self.new.moves × (M.seeds self.new.moves ≡ M.seeds self.old.moves) × KeepsBays B.tells B.out B.same self.old.nodes self.new.nodes × KeepsPacking B.Disk.tells B.Disk.content B.home (calls_of self.old.cluster.past) self.old.nodes (calls_of self.new.cluster.past) self.new.nodes }
-        ensures falls { Falls (M.given self.old.moves) (network_of self.old.cluster) (M.given self.new.moves) (network_of self.new.cluster) × M.same self.old.moves self.new.moves × (M.seeds self.new.moves ≡ M.seeds self.old.moves) × KeepsBays B.tells B.out B.same self.old.nodes self.new.nodes × KeepsPacking B.Disk.tells B.Disk.content B.home (calls_of self.old.cluster.past) self.old.nodes (calls_of self.new.cluster.past) self.new.nodes }
         ensures never { IsErrOf result SendFault.Failed → ⊥ }
         ensures stuck { IfOk result (λ answer. answer ≡ Told.Stuck PullCause.Fault → HasFailed B.Disk.faults (B.faults self.old.nodes.bays) (B.faults self.new.nodes.bays)) }
         ensures later_bays { B.faults self.old.nodes.bays ≤ B.faults self.new.nodes.bays }
@@ -265,7 +248,7 @@ where
         ensures opened { cond self.new.opened self.new.cluster.shape None ≡ None }
         ensures told { Some (calls_of self.new.cluster.past) ≡ Some (calls_of self.old.cluster.past) }
         ensures run { (cluster : Shape) (place : List ℕ) → KeepsRun (RunsFrom B.Disk.tells B.Disk.content B.home (calls_of self.old.cluster.past) self.old.nodes cluster place) (RunsFrom B.Disk.tells B.Disk.content B.home (calls_of self.new.cluster.past) self.new.nodes cluster place) }
-        ensures goes { Plays (M.given self.old.moves) (network_of self.old.cluster) (M.given self.new.moves) (network_of self.new.cluster) × M.same self.old.moves self.new.moves × (M.seeds self.new.moves ≡ M.seeds self.old.moves) × KeepsBays B.tells B.out B.same self.old.nodes self.new.nodes × KeepsPacking B.Disk.tells B.Disk.content B.home (calls_of self.old.cluster.past) self.old.nodes (calls_of self.new.cluster.past) self.new.nodes }
+        ensures net { ⟦<Self as Fabric>⟧.advances self.old self.new true }
         ensures count { self.new.faults ≡ self.old.faults }
         ensures home { (n p : ℕ) → is_up self.new.nodes n p ≡ false }
         ensures torn { has_torn (calls_of self.new.cluster.past) ≡ true → B.Disk.tells → ∥ DiskFailed B.Disk.faults ∥₁ }
@@ -279,23 +262,9 @@ where
 
     ghost runs_by_rules = { λ a cluster place opening k r. (r k.0 k.1).run };
 
-    ghost goes_nowhere = { λ f. (plays_nothing (M.given f.moves) (network_of f.cluster), M.same_self f.moves, refl, bays_stay B.tells B.out B.same f.nodes (B.same_self f.nodes.bays), packing_stays B.Disk.tells B.Disk.content B.home (calls_of f.cluster.past) f.nodes) };
+    ghost advances_nowhere = { λ f. over_nothing B.tells B.Disk.tells B.Disk.content B.home B.out B.same M.given M.seeds M.same f.moves f.cluster f.nodes (M.same_self f.moves) (B.same_self f.nodes.bays) };
 
-    ghost goes_on = { λ f g h p q. (
-      plays_on (M.given f.moves) (network_of f.cluster) (M.given g.moves) (network_of g.cluster) (M.given h.moves) (network_of h.cluster) p.0 q.0,
-      M.same_on f.moves g.moves h.moves p.1 q.1,
-      q.2 ∙ p.2,
-      bays_on B.tells B.out B.same f.nodes g.nodes h.nodes (B.same_on f.nodes.bays g.nodes.bays h.nodes.bays) p.3 q.3,
-      packing_on B.Disk.tells B.Disk.content B.home (calls_of f.cluster.past) f.nodes (calls_of g.cluster.past) g.nodes (calls_of h.cluster.past) h.nodes p.4 q.4,
-    ) };
+    ghost advances_on = { λ f g h x y. over_on B.tells B.Disk.tells B.Disk.content B.home B.out B.same M.given M.seeds M.same f.moves f.cluster f.nodes g.moves g.cluster g.nodes h.moves h.cluster h.nodes x y (M.same_on f.moves g.moves h.moves) (B.same_on f.nodes.bays g.nodes.bays h.nodes.bays) };
 
-    ghost falls_as_it_goes = { λ f g p. (falls_as_plays (M.given f.moves) (network_of f.cluster) (M.given g.moves) (network_of g.cluster) p.0, p.1, p.2, p.3, p.4) };
-
-    ghost falls_on = { λ f g h p q. (
-      falls_on (M.given f.moves) (network_of f.cluster) (M.given g.moves) (network_of g.cluster) (M.given h.moves) (network_of h.cluster) p.0 q.0,
-      M.same_on f.moves g.moves h.moves p.1 q.1,
-      q.2 ∙ p.2,
-      bays_on B.tells B.out B.same f.nodes g.nodes h.nodes (B.same_on f.nodes.bays g.nodes.bays h.nodes.bays) p.3 q.3,
-      packing_on B.Disk.tells B.Disk.content B.home (calls_of f.cluster.past) f.nodes (calls_of g.cluster.past) g.nodes (calls_of h.cluster.past) h.nodes p.4 q.4,
-    ) };
+    ghost advances_anyhow = { λ f g x. over_anyhow B.tells B.Disk.tells B.Disk.content B.home B.out B.same M.given M.seeds M.same f.moves f.cluster f.nodes g.moves g.cluster g.nodes x };
 }

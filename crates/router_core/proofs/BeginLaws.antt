@@ -1,20 +1,18 @@
 -- What a router keeps where an operation begins.
-use Rattle.std.proofs.Common.{◌≡◌, ◌≢◌, ℕ, ◌+◌, ◌-◌, ◌%◌, ◌^◌, ◌<◌, ◌≤◌, true, false, List, [], ◌∷◌, ◌++◌, length, Option, Some, None, refl, sym, ap, ◌∙◌, subst, inl, arith}
+use Rattle.std.proofs.Common.{◌≡◌, ◌≢◌, ℕ, ◌+◌, ◌-◌, ◌%◌, ◌^◌, ◌<◌, ◌≤◌, true, false, List, [], ◌∷◌, length, Some, None, refl, sym, ap, ◌∙◌, subst, inl, arith}
 use Rattle.blob_id.specs.declared.blob.Blob.{Blob}
 use Rattle.blob_id.specs.declared.id.BlobId.{BlobId}
 use Rattle.blob_id.specs.declared.id.Kind.{Kind}
 use Rattle.blob_id.specs.Id.{kind_of, partition_of}
 use Rattle.quorum_op.specs.declared.outcome.Outcome.{Outcome}
 use Rattle.world_model.specs.declared.history.Begun.{Begun}
-use Rattle.world_model.specs.declared.history.HistoryMark.{HistoryMark}
 use Rattle.world_model.specs.declared.history.HistoryMark.TheVariants.{Begin, Drew}
 use Rattle.world_model.specs.declared.shape.Shape.{Shape}
-use Rattle.world_model.specs.declared.step.Called.{Called}
 use Rattle.world_model.specs.Notes.{Piece, clock_of}
 use Rattle.world_model.specs.Ordered.{marks_of}
 use Rattle.world_model.specs.Outcomes.{DrewNothing, Follows, named, names_id}
 use Rattle.world_model.specs.Pieces.{is_chunk, is_composite, is_simple, same_kind}
-use Rattle.world_model.specs.Record.{Top, Marked, Drawn, Decided, Record}
+use Rattle.world_model.specs.Record.{Top, Marked, Drawn, Decided, Record, turns_in}
 use Rattle.world_model.specs.Router.{begun_in}
 use Rattle.world_model.specs.Told.{AllSession}
 use Rattle.operation.specs.Calls.{Drew}
@@ -24,32 +22,25 @@ use Rattle.op_table.specs.Tied.{IsTarget, OwnsCalls}
 use Rattle.op_table.proofs.TiedLaws.{nothing_asked}
 use Rattle.router_core.specs.declared.live.Live.{Live}
 use Rattle.router_core.specs.declared.router.Stage.{Stage}
-use Rattle.router_core.specs.Beginning.{BeginsAs, IsRefused, begin_items}
-use Rattle.router_core.specs.Fits.{DoesJob, RouterView}
+use Rattle.router_core.specs.Beginning.{BeginsAs, IsRefused, begin_items, put_items}
+use Rattle.router_core.specs.Fits.{DoesJob}
 use Rattle.router_core.specs.Jobs.{Job, Puts, Gets, Deletes, HasDrawnId, IsServed, begun_as, piece_for, target_for}
-use Rattle.router_core.specs.Stages.{simple_rules, AimsBelow, AimsWithin, IsIdle, IsUnderWay}
-use Rattle.router_core.specs.Stands.{Counts, HasLeft, Owns, OwnsLive, OwnsStage, Stands, is_idle}
-use Rattle.router_core.specs.Ties.{Ties}
-use Rattle.router_core.proofs.AimLaws.{below_stays, none_said, within_stays}
+use Rattle.router_core.specs.Stages.{simple_rules, AimsBelow, AimsWithin, IsGoing, IsUnderWay}
+use Rattle.router_core.specs.Stands.{HasLeft, OwnsLive}
+use Rattle.router_core.proofs.AimLaws.{below_stays, none_said}
 use Rattle.router_core.proofs.StageLaws.{begins, decides, deletes_on, draws, drew_nothing, no_requests}
-use Rattle.router_core.proofs.TieLaws.{tie_items, tie_same}
 
 -- ---- the next operation
 
-pub idle_record : (shape : Shape) (r : Record) (stage : Stage) → is_idle stage ≡ true → OwnsStage shape r stage → IsIdle (simple_rules shape) r
-idle_record shape r Stage.Idle h o = o
-idle_record shape r (Stage.UnderWay live) h o = absurd cc
-idle_record shape r (Stage.Over operation outcome) h o = absurd cc
-
-begins_next : (shape : Shape) (r : Record) (operation : ℕ) (begun : Begun) → IsIdle (simple_rules shape) r → operation ≡ begun_in r + 1 → operation < 2 ^ 31 → IsUnderWay (simple_rules shape) (Marked (Begin operation begun) ∷ r) operation begun r 1
+pub begins_next : (shape : Shape) (r : Record) (operation : ℕ) (begun : Begun) → IsGoing (simple_rules shape) r → operation ≡ begun_in r + 1 → operation < 2 ^ 31 → IsUnderWay (simple_rules shape) (Marked (Begin operation begun) ∷ r) operation begun r 1
 begins_next shape r operation begun i e l =
     let n : operation ≡ 1 + begun_in r = omega (arith, e) in
     subst (λ (k : ℕ). IsUnderWay (simple_rules shape) (Marked (Begin k begun) ∷ r) k begun r 1) (sym n) (begins (simple_rules shape) r begun i (omega (arith, n, l)))
 
-asks_nothing : (shape : Shape) (r : Record) (operation : ℕ) (begun : Begun) (piece : Piece) → IsIdle (simple_rules shape) r → operation ≡ begun_in r + 1 → piece.operation ≡ operation → AsksNothing piece r
+asks_nothing : (shape : Shape) (r : Record) (operation : ℕ) (begun : Begun) (piece : Piece) → IsGoing (simple_rules shape) r → operation ≡ begun_in r + 1 → piece.operation ≡ operation → AsksNothing piece r
 asks_nothing shape r operation begun piece i e n = λ a h. no_requests (simple_rules shape) r begun piece a i (omega (arith, n, e)) h
 
-none_drawn : (shape : Shape) (r : Record) (operation : ℕ) (begun : Begun) → IsIdle (simple_rules shape) r → operation ≡ begun_in r + 1 → DrewNothing (Marked (Begin operation begun) ∷ r) operation
+none_drawn : (shape : Shape) (r : Record) (operation : ℕ) (begun : Begun) → IsGoing (simple_rules shape) r → operation ≡ begun_in r + 1 → DrewNothing (Marked (Begin operation begun) ∷ r) operation
 none_drawn shape r operation begun i e =
     let n : operation ≡ 1 + begun_in r = omega (arith, e) in
     subst (λ (k : ℕ). DrewNothing (Marked (Begin k begun) ∷ r) k) (sym n) (drew_nothing (simple_rules shape) r begun i)
@@ -70,7 +61,7 @@ said_nothing shape r operation begun e w = below_stays (Marked (Begin operation 
 
 -- ---- a put
 
-pub put_owned : (shape : Shape) (r : Record) (operation moment : ℕ) (id : BlobId) (body : List ℕ) (live : Live) → IsIdle (simple_rules shape) r → AimsWithin r → moment ≡ clock_of r → operation ≡ begun_in r + 1 → operation < 2 ^ 31 → length body ≤ shape.chunk
+put_owned : (shape : Shape) (r : Record) (operation moment : ℕ) (id : BlobId) (body : List ℕ) (live : Live) → IsGoing (simple_rules shape) r → AimsWithin r → moment ≡ clock_of r → operation ≡ begun_in r + 1 → operation < 2 ^ 31 → length body ≤ shape.chunk
     → IsServed shape id → partition_of id ≡ (operation - 1) % shape.partitions → live.operation ≡ operation → live.requests ≡ [] → DoesJob shape moment (Puts id body) live.op (Drew id (Some body) ∷ [])
     → OwnsLive shape (Drawn operation Top 0 id (record { created = moment; ctype = []; meta = []; body = body }) ∷ Marked (Begin operation (Begun.Put [] body 0 [] [])) ∷ r) live []
 put_owned shape r operation moment id body live i w clock e l small served chosen same none does =
@@ -104,63 +95,15 @@ put_owned shape r operation moment id body live i w clock e l small served chose
       kept_all = tt;
     }
 
-pub ties_put : (old : RouterView) (id : BlobId) (body : List ℕ) (live : Live) (told : Option (List Called)) (marks : List HistoryMark) → is_idle old.stage ≡ true → old.begun + 1 < 2 ^ 31 → length body ≤ old.shape.chunk → IsServed old.shape id
-    → partition_of id ≡ old.begun % old.shape.partitions → live.operation ≡ old.begun + 1 → live.requests ≡ [] → DoesJob old.shape old.clock (Puts id body) live.op (Drew id (Some body) ∷ [])
-    → Ties (Owns old) told marks → Ties (Owns (record { shape = old.shape; clock = old.clock; events = old.events; begun = old.begun + 1; stage = Stage.UnderWay live })) told (Drew (old.begun + 1) id ∷ Begin (old.begun + 1) (Begun.Put [] body 0 [] []) ∷ marks)
-ties_put old id body live told marks idle l small served chosen same none does t =
-    let new : RouterView = record { shape = old.shape; clock = old.clock; events = old.events; begun = old.begun + 1; stage = Stage.UnderWay live } in
-    let drawn = Drawn (old.begun + 1) Top 0 id (record { created = old.clock; ctype = []; meta = []; body = body }) in
-    let mark = Marked (Begin (old.begun + 1) (Begun.Put [] body 0 [] [])) in
-    tie_items (Owns old) (Owns new) (drawn ∷ mark ∷ []) told marks (refl, (refl, tt))
-    (λ r o.
-    let c = o.counts in
-    record {
-      counts = record {
-        clock_is = c.clock_is;
-        events_are = c.events_are;
-        begun_are = let b = c.begun_are in omega (arith, b);
-        aims = within_stays drawn (mark ∷ r) (λ x p a e. absurd cc) (omega arith) (within_stays mark r (λ x p a e. absurd cc) (omega arith) c.aims);
-      };
-      stage = put_owned old.shape r (old.begun + 1) old.clock id body live (idle_record old.shape r old.stage idle o.stage) c.aims c.clock_is (let b = c.begun_are in omega (arith, b)) l small served
-          (chosen ∙ ap (λ (n : ℕ). n % old.shape.partitions) (omega arith)) same none does;
-    })
-    t
-
 -- ---- what is over at once
 
-over_owned : (shape : Shape) (r : Record) (operation : ℕ) (begun : Begun) (outcome : Outcome) → IsIdle (simple_rules shape) r → operation ≡ begun_in r + 1 → operation < 2 ^ 31 → Follows (simple_rules shape) (Marked (Begin operation begun) ∷ r) operation begun outcome
-    → outcome ≢ Outcome.Cancelled → HasLeft shape (Decided operation outcome ∷ Marked (Begin operation begun) ∷ r) operation outcome
-over_owned shape r operation begun outcome i e l f n = record {
+over_owned : (shape : Shape) (r : Record) (operation : ℕ) (begun : Begun) (outcome : Outcome) (turn : ℕ) → IsGoing (simple_rules shape) r → operation ≡ begun_in r + 1 → operation < 2 ^ 31 → Follows (simple_rules shape) (Marked (Begin operation begun) ∷ r) operation begun outcome
+    → outcome ≢ Outcome.Cancelled → turn ≡ turns_in r + 1 → HasLeft shape (Decided operation outcome ∷ Marked (Begin operation begun) ∷ r) operation outcome turn
+over_owned shape r operation begun outcome turn i e l f n now = record {
+  since = record { at = Marked (Begin operation begun) ∷ r; decided = inl refl; turn_is = omega (arith, now) };
   over = decides (simple_rules shape) (Marked (Begin operation begun) ∷ r) operation begun r 1 outcome (begins_next shape r operation begun i e l) f n;
   deletes = deletes_on shape (Decided operation outcome) (Marked (Begin operation begun) ∷ r) operation outcome (λ id blob x. cc x) (λ none id blob h replica low. absurd (none_drawn shape r operation begun i e Top 0 id blob h));
 }
-
-pub ties_too_large : (old : RouterView) (size : ℕ) (body : List ℕ) (told : Option (List Called)) (marks : List HistoryMark) → is_idle old.stage ≡ true → old.begun + 1 < 2 ^ 31 → old.shape.chunk < size → length body ≡ size → Ties (Stands old) told marks
-    → Ties (Stands (record { shape = old.shape; clock = old.clock; events = old.events; begun = old.begun + 1; stage = Stage.Over (old.begun + 1) (Outcome.TooLarge size) })) told (Begin (old.begun + 1) (Begun.Put [] body 0 [] []) ∷ marks)
-ties_too_large old size body told marks idle l large long t =
-    let new : RouterView = record { shape = old.shape; clock = old.clock; events = old.events; begun = old.begun + 1; stage = Stage.Over (old.begun + 1) (Outcome.TooLarge size) } in
-    let begun : Begun = Begun.Put [] body 0 [] [] in
-    let over = Decided (old.begun + 1) (Outcome.TooLarge size) in
-    let mark = Marked (Begin (old.begun + 1) begun) in
-    tie_items (Stands old) (Stands new) (over ∷ mark ∷ []) told marks (refl, (refl, tt))
-    (λ r s.
-    let o = s.owns in
-    let c = o.counts in
-    let i = idle_record old.shape r old.stage idle o.stage in
-    let e : old.begun + 1 ≡ begun_in r + 1 = let b = c.begun_are in omega (arith, b) in
-    record {
-      owns = record {
-        counts = record {
-          clock_is = c.clock_is;
-          events_are = c.events_are;
-          begun_are = let b = c.begun_are in omega (arith, b);
-          aims = within_stays over (mark ∷ r) (λ x p a e. absurd cc) (omega arith) (within_stays mark r (λ x p a e. absurd cc) (omega arith) c.aims);
-        };
-        stage = over_owned old.shape r (old.begun + 1) begun (Outcome.TooLarge size) i e l ((λ none. sym long), large, none_drawn old.shape r (old.begun + 1) begun i e) (λ x. absurd cc);
-      };
-      waits = tt;
-    })
-    t
 
 -- ---- an operation on an id
 
@@ -184,13 +127,14 @@ refused_follows shape r operation begun (Outcome.Corrupt id) names why = absurd 
 refused_follows shape r operation begun Outcome.Memory names why = absurd why
 
 -- one that is refused is over at once
-pub refused_begins : (shape : Shape) (clock operation : ℕ) (begun : Begun) (outcome : Outcome) → operation < 2 ^ 31 → names_id begun ≡ true → IsRefused shape (named begun) outcome → BeginsAs shape clock operation begun (Stage.Over operation outcome)
-refused_begins shape clock operation begun outcome l names why = λ r i w c e.
-    over_owned shape r operation begun outcome i e l (refused_follows shape (Marked (Begin operation begun) ∷ r) operation begun outcome names why)
-    (λ x. let z : IsRefused shape (named begun) Outcome.Cancelled = subst (λ (o : Outcome). IsRefused shape (named begun) o) x why in absurd z)
+pub refused_begins : (shape : Shape) (clock turn operation : ℕ) (begun : Begun) (outcome : Outcome) → operation < 2 ^ 31 → names_id begun ≡ true → IsRefused shape (named begun) outcome
+    → BeginsAs shape clock turn operation (begin_items operation begun (Stage.Over operation outcome turn)) (Stage.Over operation outcome turn)
+refused_begins shape clock turn operation begun outcome l names why = λ r i w c t e.
+    over_owned shape r operation begun outcome turn i e l (refused_follows shape (Marked (Begin operation begun) ∷ r) operation begun outcome names why)
+    (λ x. let z : IsRefused shape (named begun) Outcome.Cancelled = subst (λ (o : Outcome). IsRefused shape (named begun) o) x why in absurd z) t
 
 job_owned : (shape : Shape) (r : Record) (clock operation : ℕ) (job : Job) (live : Live) → operation < 2 ^ 31 → live.operation ≡ operation → live.requests ≡ [] → DoesJob shape clock job live.op [] → (HasDrawnId (Marked (Begin operation (begun_as job)) ∷ r) operation (clock_of r) job)
-    → IsIdle (simple_rules shape) r → AimsWithin r → clock ≡ clock_of r → operation ≡ begun_in r + 1 → OwnsLive shape (Marked (Begin operation (begun_as job)) ∷ r) live []
+    → IsGoing (simple_rules shape) r → AimsWithin r → clock ≡ clock_of r → operation ≡ begun_in r + 1 → OwnsLive shape (Marked (Begin operation (begun_as job)) ∷ r) live []
 job_owned shape r clock operation job live l same none does drawn i w c e =
     let now : Record = Marked (Begin operation (begun_as job)) ∷ r in
     let owns = nothing_asked shape (piece_for operation job) (target_for shape clock job) now [] (is_target shape operation clock job) (asks_nothing shape r operation (begun_as job) (piece_for operation job) i e (piece_number operation job)) refl in
@@ -216,11 +160,21 @@ job_owned shape r clock operation job live l same none does drawn i w c e =
       kept_all = tt;
     }
 
-pub get_begins : (shape : Shape) (clock operation : ℕ) (id : BlobId) (live : Live) → operation < 2 ^ 31 → live.operation ≡ operation → live.requests ≡ [] → DoesJob shape clock (Gets id) live.op [] → BeginsAs shape clock operation (Begun.Get (Some id) None []) (Stage.UnderWay live)
-get_begins shape clock operation id live l same none does = λ r i w c e. job_owned shape r clock operation (Gets id) live l same none does tt i w c e
+pub get_begins : (shape : Shape) (clock turn operation : ℕ) (id : BlobId) (live : Live) → operation < 2 ^ 31 → live.operation ≡ operation → live.requests ≡ [] → DoesJob shape clock (Gets id) live.op [] → BeginsAs shape clock turn operation (Marked (Begin operation (Begun.Get (Some id) None [])) ∷ []) (Stage.UnderWay live)
+get_begins shape clock turn operation id live l same none does = λ r i w c t e. job_owned shape r clock operation (Gets id) live l same none does tt i w c e
 
-pub delete_begins : (shape : Shape) (clock operation : ℕ) (id : BlobId) (live : Live) → operation < 2 ^ 31 → live.operation ≡ operation → live.requests ≡ [] → DoesJob shape clock (Deletes id) live.op [] → BeginsAs shape clock operation (Begun.Delete (Some id)) (Stage.UnderWay live)
-delete_begins shape clock operation id live l same none does = λ r i w c e. job_owned shape r clock operation (Deletes id) live l same none does tt i w c e
+pub delete_begins : (shape : Shape) (clock turn operation : ℕ) (id : BlobId) (live : Live) → operation < 2 ^ 31 → live.operation ≡ operation → live.requests ≡ [] → DoesJob shape clock (Deletes id) live.op [] → BeginsAs shape clock turn operation (Marked (Begin operation (Begun.Delete (Some id))) ∷ []) (Stage.UnderWay live)
+delete_begins shape clock turn operation id live l same none does = λ r i w c t e. job_owned shape r clock operation (Deletes id) live l same none does tt i w c e
+
+pub put_begins : (shape : Shape) (clock turn operation : ℕ) (id : BlobId) (body : List ℕ) (live : Live) → operation < 2 ^ 31 → length body ≤ shape.chunk → IsServed shape id → partition_of id ≡ (operation - 1) % shape.partitions → live.operation ≡ operation
+    → live.requests ≡ [] → DoesJob shape clock (Puts id body) live.op (Drew id (Some body) ∷ []) → BeginsAs shape clock turn operation (put_items operation clock id body) (Stage.UnderWay live)
+put_begins shape clock turn operation id body live l small served chosen same none does = λ r i w c t e. put_owned shape r operation clock id body live i w c e l small served chosen same none does
+
+-- a put of too many bytes is over at once
+pub large_begins : (shape : Shape) (clock turn operation size : ℕ) (body : List ℕ) → operation < 2 ^ 31 → shape.chunk < size → length body ≡ size
+    → BeginsAs shape clock turn operation (begin_items operation (Begun.Put [] body 0 [] []) (Stage.Over operation (Outcome.TooLarge size) turn)) (Stage.Over operation (Outcome.TooLarge size) turn)
+large_begins shape clock turn operation size body l large long = λ r i w c t e.
+    over_owned shape r operation (Begun.Put [] body 0 [] []) (Outcome.TooLarge size) turn i e l ((λ none. sym long), large, none_drawn shape r operation (Begun.Put [] body 0 [] []) i e) (λ x. absurd cc) t
 
 -- what is neither composite nor a chunk is simple
 pub simple_else : (id : BlobId) → is_composite id ≡ false → is_chunk id ≡ false → is_simple id ≡ true
@@ -231,48 +185,10 @@ simple_else id c k = go (kind_of id) c k
     go Kind.Composite c k = absurd cc
     go Kind.Chunk c k = absurd cc
 
-all_session : (operation : ℕ) (begun : Begun) (stage : Stage) → AllSession (begin_items operation begun stage)
-all_session operation begun Stage.Idle = (refl, tt)
+pub all_session : (operation : ℕ) (begun : Begun) (stage : Stage) → AllSession (begin_items operation begun stage)
 all_session operation begun (Stage.UnderWay live) = (refl, tt)
-all_session operation begun (Stage.Over number outcome) = (refl, (refl, tt))
+all_session operation begun (Stage.Over number outcome turn) = (refl, (refl, tt))
 
-begin_marks : (operation : ℕ) (begun : Begun) (stage : Stage) → marks_of (begin_items operation begun stage) ≡ Begin operation begun ∷ []
-begin_marks operation begun Stage.Idle = refl
+pub begin_marks : (operation : ℕ) (begun : Begun) (stage : Stage) → marks_of (begin_items operation begun stage) ≡ Begin operation begun ∷ []
 begin_marks operation begun (Stage.UnderWay live) = refl
-begin_marks operation begun (Stage.Over number outcome) = refl
-
-begin_counts : (clock events count operation : ℕ) (begun : Begun) (stage : Stage) (r : Record) → Counts clock events count r → Counts clock events (count + 1) (begin_items operation begun stage ++ r)
-begin_counts clock events count operation begun stage r c = go stage
-  where
-    one : Counts clock events (count + 1) (Marked (Begin operation begun) ∷ r)
-    one = record { clock_is = c.clock_is; events_are = c.events_are; begun_are = let b = c.begun_are in omega (arith, b); aims = within_stays (Marked (Begin operation begun)) r (λ x p a e. absurd cc) (omega arith) c.aims }
-
-    go : (stage : Stage) → Counts clock events (count + 1) (begin_items operation begun stage ++ r)
-    go Stage.Idle = one
-    go (Stage.UnderWay live) = one
-    go (Stage.Over number outcome) = record {
-      clock_is = c.clock_is;
-      events_are = c.events_are;
-      begun_are = let b = c.begun_are in omega (arith, b);
-      aims = within_stays (Decided operation outcome) (Marked (Begin operation begun) ∷ r) (λ x p a e. absurd cc) (omega arith) (within_stays (Marked (Begin operation begun)) r (λ x p a e. absurd cc) (omega arith) c.aims);
-    }
-
-pub ties_begun : (old : RouterView) (begun : Begun) (stage : Stage) (told : Option (List Called)) (marks : List HistoryMark) → is_idle old.stage ≡ true → BeginsAs old.shape old.clock (old.begun + 1) begun stage → Ties (Owns old) told marks
-    → Ties (Owns (record { shape = old.shape; clock = old.clock; events = old.events; begun = old.begun + 1; stage = stage })) told (Begin (old.begun + 1) begun ∷ marks)
-ties_begun old begun stage told marks idle begins t =
-    let new : RouterView = record { shape = old.shape; clock = old.clock; events = old.events; begun = old.begun + 1; stage = stage } in
-    let n : ℕ = old.begun + 1 in
-    subst (λ (m : List HistoryMark). Ties (Owns new) told (m ++ marks)) (begin_marks n begun stage)
-    (tie_items (Owns old) (Owns new) (begin_items n begun stage) told marks (all_session n begun stage)
-    (λ r o.
-    let c = o.counts in
-    record {
-      counts = begin_counts old.clock old.events old.begun n begun stage r c;
-      stage = begins r (idle_record old.shape r old.stage idle o.stage) c.aims c.clock_is (let b = c.begun_are in omega (arith, b));
-    })
-    t)
-
--- ---- a router at rest
-
-pub ties_owned : (old : RouterView) (told : Option (List Called)) (marks : List HistoryMark) → Ties (Stands old) told marks → Ties (Owns old) told marks
-ties_owned old told marks t = tie_same (Stands old) (Owns old) told marks t (λ r s. s.owns)
+begin_marks operation begun (Stage.Over number outcome turn) = refl

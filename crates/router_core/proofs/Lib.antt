@@ -16,3 +16,6 @@ pub mod OrderingLaws
 pub mod DoesLaws
 pub mod PollLaws
 pub mod SendLaws
+pub mod OthersLaws
+pub mod TableLaws
+pub mod TakingLaws

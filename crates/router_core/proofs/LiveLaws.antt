@@ -16,7 +16,7 @@ use Rattle.world_model.specs.Frames.{frame_in}
 use Rattle.world_model.specs.Lists.{Has}
 use Rattle.world_model.specs.Notes
 use Rattle.world_model.specs.Notes.{Asked, ask_as, asked, asked_now, is_of, clock_of, events_in, router_frame}
-use Rattle.world_model.specs.Record.{Item, Top, Aimed, Decided, Drawn, Took, Given, Record}
+use Rattle.world_model.specs.Record.{Item, Top, Aimed, Decided, Drawn, Took, Given, Record, turns_in}
 use Rattle.world_model.specs.Shape.{IsShape, replica_of}
 use Rattle.world_model.specs.Told.{AllNetwork}
 use Rattle.world_model.proofs.NoteLaws.{decoded_frame}
@@ -34,15 +34,18 @@ use Rattle.op_table.specs.Heard.{heard_of, reply_in}
 use Rattle.op_table.specs.Piece.{FailsToSend, SendsEntry, is_mute}
 use Rattle.op_table.specs.Tied.{AreNumbered, OwnsCalls}
 use Rattle.op_table.specs.Told.{left, say, still_heard, told_all, told_calls}
-use Rattle.op_table.proofs.TiedLaws.{batch_added, event_told, item_stays, network_stays, request_refused, request_sent}
+use Rattle.op_table.specs.Addressed.{heard_by}
+use Rattle.op_table.proofs.AddressedLaws.{event_told_by}
+use Rattle.op_table.proofs.TiedLaws.{batch_added, item_stays, network_stays, request_refused, request_sent}
 use Rattle.router_core.specs.declared.live.Live.{Live}
 use Rattle.router_core.specs.Answers.{placed}
 use Rattle.router_core.specs.Fits.{DoesJob, IsAnswer}
 use Rattle.router_core.specs.Jobs.{Job, Puts, Gets, Deletes, DrewOnly, EachIs, GoOnFrom, GoesOn, HasDrawnId, IsForPiece, WasGiven, begun_as, delete_task, get_task, piece_for, plan_for, put_task, target_for}
 use Rattle.router_core.specs.Requests.{correlation_for, entry_for, node_for}
-use Rattle.router_core.specs.Stages.{simple_rules, AimsBelow, AsksBelow, IsUnderWay, IsOver}
+use Rattle.router_core.specs.Stages.{simple_rules, AimsBelow, AsksBelow, IsUnderWay, IsDecidedIn, IsOver}
 use Rattle.router_core.specs.Removals.{IsNoStore, IsToDelete}
 use Rattle.router_core.specs.Stands.{GivesAllUp, IsPending, IsSettled, Leaves, OwnsLive, Waits, order, outcome_now, wants_now}
+use Rattle.router_core.specs.Turning.{IsTold}
 use Rattle.router_core.proofs.AimLaws.{IsNoAim, below_aimed, below_more, below_stays, below_took}
 use Rattle.router_core.proofs.AskLaws.{aimed_record, drawn_later, frame_for, is_for_piece, own_request, sendable, sends_entry}
 use Rattle.router_core.proofs.FollowLaws.{follows}
@@ -172,20 +175,21 @@ waits_still shape item r live apart mute none on w = (live_still shape item r li
 
 -- ---- what is told
 
--- what is kept of an operation that was told an event
-pub record IsTold (heard : Heard) (events : ℕ) (old new : Live) : Type 0 where
-  pub operation : new.operation ≡ old.operation
-  pub requests : new.requests ≡ left heard events old.requests
-  pub does : (shape : Shape) (moment : ℕ) (job : Job) (calls : List Call) → DoesJob shape moment job old.op calls → DoesJob shape moment job new.op (told_calls heard (told_all heard events old.requests) calls)
+piece_is_of : (operation : ℕ) (job : Job) → (piece_for operation job).operation ≡ operation
+piece_is_of operation (Puts id body) = refl
+piece_is_of operation (Gets id) = refl
+piece_is_of operation (Deletes id) = refl
 
-pub live_given : (shape : Shape) (event : Event) (r : Record) (heard : Heard) (events : ℕ) (old new : Live) → events_in r ≡ events → heard ≡ heard_of event → IsTold heard events old new → OwnsLive shape r old [] → OwnsLive shape (Given event ∷ r) new []
+pub live_given : (shape : Shape) (event : Event) (r : Record) (heard : Heard) (events : ℕ) (old new : Live) → events_in r ≡ events → heard ≡ heard_of event → IsTold (heard_by old.operation heard) events old new → OwnsLive shape r old [] → OwnsLive shape (Given event ∷ r) new []
 live_given shape event r heard events old new n e told o =
     let rules = simple_rules shape in
+    let mine : Heard = heard_by old.operation heard in
     let t = target_for shape (clock_of o.then) o.job in
-    let calls = told_calls heard (told_all heard events old.requests) o.calls in
-    let next : next_request calls ≡ next_request o.calls = next_told heard (told_all heard events old.requests) o.calls in
-    let there : OwnsCalls shape (piece_for old.operation o.job) t (Given event ∷ r) (left heard events old.requests) calls [] =
-    event_told rules (piece_for old.operation o.job) t event r heard events old.requests o.calls [] n o.under_way.going.kept e o.owns in
+    let calls = told_calls mine (told_all mine events old.requests) o.calls in
+    let next : next_request calls ≡ next_request o.calls = next_told mine (told_all mine events old.requests) o.calls in
+    let there : OwnsCalls shape (piece_for old.operation o.job) t (Given event ∷ r) (left mine events old.requests) calls [] =
+    subst (λ (k : ℕ). OwnsCalls shape (piece_for old.operation o.job) t (Given event ∷ r) (left (heard_by k heard) events old.requests) (told_calls (heard_by k heard) (told_all (heard_by k heard) events old.requests) o.calls) []) (piece_is_of old.operation o.job)
+    (event_told_by rules (piece_for old.operation o.job) t event r heard events old.requests o.calls [] n o.under_way.going.kept e o.owns) in
     record {
       job = o.job;
       then = o.then;
@@ -196,7 +200,7 @@ live_given shape event r heard events old new n e told o =
       aims = subst (λ (k : ℕ). AimsBelow (Given event ∷ r) k o.next) (sym told.operation) (below_stays (Given event) r old.operation o.next o.next (λ c p a x. absurd cc) (omega arith) o.aims);
       drawn = subst (λ (k : ℕ). HasDrawnId (Given event ∷ r) k (clock_of o.then) o.job) (sym told.operation) (drawn_later (Given event) r old.operation (clock_of o.then) o.job o.drawn);
       does = told.does shape (clock_of o.then) o.job o.calls o.does;
-      goes_on = goes_told heard (told_all heard events old.requests) o.calls o.goes_on;
+      goes_on = goes_told mine (told_all mine events old.requests) o.calls o.goes_on;
       owns = subst (λ (k : ℕ). OwnsCalls shape (piece_for k o.job) t (Given event ∷ r) new.requests calls []) (sym told.operation)
           (subst (λ (ws : List Waiting). OwnsCalls shape (piece_for old.operation o.job) t (Given event ∷ r) ws calls []) (sym told.requests) there);
       some = o.some;
@@ -204,7 +208,7 @@ live_given shape event r heard events old new n e told o =
       numbered = tt;
       counted = o.counted ∙ sym next;
       for_piece = tt;
-      kept_all = subst (λ (l : List Sending). EachIs (λ sending. is_given_up sending.purpose ≡ false) l) (sym (sent_told heard (told_all heard events old.requests) o.calls)) o.kept_all;
+      kept_all = subst (λ (l : List Sending). EachIs (λ sending. is_given_up sending.purpose ≡ false) l) (sym (sent_told mine (told_all mine events old.requests) o.calls)) o.kept_all;
     }
 
 -- ---- requests
@@ -255,11 +259,10 @@ record IsAimed (shape : Shape) (r : Record) (live : Live) (s : Sending) (rest : 
 further : (shape : Shape) (r : Record) (operation : ℕ) (job : Job) (then : Record) (next later : ℕ) → next ≤ later → IsUnderWay (simple_rules shape) r operation (begun_as job) then next → IsUnderWay (simple_rules shape) r operation (begun_as job) then later
 further shape r operation job then next later more u = record {
   going = u.going;
-  last = u.last;
+  known = u.known;
   began = u.began;
   undone = u.undone;
   below = λ a h e. let b = u.below a h e in omega (arith, b, more);
-  ended = u.ended;
 }
 
 is_aimed : (shape : Shape) (r : Record) (live : Live) (s : Sending) (rest : List Sending) (o : OwnsLive shape r live (s ∷ rest)) → IsAimed shape r live s rest o
@@ -434,6 +437,7 @@ live_over shape r old new how o came answer same does =
         next = o.next;
         from = o.from;
         over = subst (λ (k : ℕ). IsOver rules (item ∷ r) k (placed shape how)) (sym same) over;
+        now = subst (λ (k : ℕ). IsDecidedIn (item ∷ r) k (placed shape how) (turns_in r)) (sym same) (record { at = r; decided = inl refl; turn_is = refl });
         asks = subst (λ (k : ℕ). AsksBelow (item ∷ r) k o.next) (sym same) o.under_way.below;
         aims = subst (λ (k : ℕ). AimsBelow (item ∷ r) k o.next) (sym same) (below_stays item r old.operation o.next o.next (λ x p a e. absurd cc) (omega arith) o.aims);
         drawn = subst (λ (k : ℕ). HasDrawnId (item ∷ r) k moment o.job) (sym same) (drawn_later item r old.operation moment o.job o.drawn);
@@ -472,6 +476,7 @@ leaves_added shape r old new outcome o same does =
       next = o.next;
       from = next_request o.calls;
       over = subst (λ (k : ℕ). IsOver rules r k outcome) (sym same) o.over;
+      now = subst (λ (k : ℕ). IsDecidedIn r k outcome (turns_in r)) (sym same) o.now;
       asks = subst (λ (k : ℕ). AsksBelow r k o.next) (sym same) o.asks;
       aims = subst (λ (k : ℕ). AimsBelow r k o.next) (sym same) o.aims;
       drawn = subst (λ (k : ℕ). HasDrawnId r k o.moment o.job) (sym same) o.drawn;

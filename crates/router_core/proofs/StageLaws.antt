@@ -10,6 +10,7 @@ use Rattle.quorum_op.specs.declared.outcome.Outcome.{Outcome}
 use Rattle.req_frame.specs.declared.frame.Body.{Body}
 use Rattle.req_frame.specs.declared.frame.Frame.{Frame}
 use Rattle.world_model.specs.declared.history.Begun.{Begun}
+use Rattle.world_model.specs.declared.history.HistoryMark.{HistoryMark}
 use Rattle.world_model.specs.declared.history.HistoryMark.TheVariants.{Begin, End, Wait, Ordered}
 use Rattle.world_model.specs.declared.order.Order.{Order}
 use Rattle.world_model.specs.declared.order.Told.{Told}
@@ -30,8 +31,9 @@ use Rattle.world_model.specs.Told.{is_frame, is_network, AllNetwork}
 use Rattle.world_model.proofs.CellLaws.{same_number}
 use Rattle.world_model.proofs.ListLaws.{earlier_tail, earlier_trans, head_has, has_append, has_at, has_later, has_right, each_at}
 use Rattle.world_model.proofs.RouterLaws.{begun_most, drawn_at}
+use Rattle.op_table.specs.Apart.{IsApart}
 use Rattle.router_core.specs.Removals.{AskedToDelete, DeletesDrawn, DeletesWhatFailed}
-use Rattle.router_core.specs.Stages.{simple_rules, IsGoing, IsIdle, IsUnderWay, IsOver}
+use Rattle.router_core.specs.Stages.{simple_rules, IsDecidedIn, IsGoing, IsUnderWay, IsOver}
 
 -- ---- items that change little
 
@@ -108,24 +110,16 @@ going_on rules item r s none now g = going_with rules item r s now (deletes_stil
 going_quiet : (rules : Rules) (item : Item) (r : Record) → IsQuiet rules item r → IsGoing rules r → IsGoing rules (item ∷ r)
 going_quiet rules item r q g = going_on rules item r q.steady q.ends (none_asked (λ a. operation_of a.correlation ≤ begun_in r) item r q.asks) g
 
-idle_quiet : (rules : Rules) (item : Item) (r : Record) → IsQuiet rules item r → IsIdle rules r → IsIdle rules (item ∷ r)
-unfolding going_quiet
-idle_quiet rules item r q i = record {
-  going = going_quiet rules item r q i.going;
-  ended = λ operation outcome h. elim h [ inl e ↦ absurd (q.decides operation outcome e) | inr t ↦ inr (i.ended operation outcome t) ];
-}
-
 -- an operation goes on by an item that decides none, whose requests are its own and have numbers below `later`
 under_way_on : (rules : Rules) (item : Item) (r : Record) (operation : ℕ) (begun : Begun) (then : Record) (next later : ℕ) → IsSteady rules item r → ((other : ℕ) (outcome : Outcome) → Decided other outcome ≡ item → ⊥) → EndsNone item
     → ((a : Asked) → Has (asked_now item r) a → (operation_of a.correlation ≡ operation) × (a.correlation < operation * 2 ^ 32 + later)) → next ≤ later
     → IsUnderWay rules r operation begun then next → IsUnderWay rules (item ∷ r) operation begun then later
 under_way_on rules item r operation begun then next later s undecided none now l u = record {
-  going = going_on rules item r s none (λ a h. let n = now a h in omega (arith, n.0, u.last)) u.going;
-  last = u.last ∙ sym s.begins;
+  going = going_on rules item r s none (λ a h. let n = now a h in omega (arith, n.0, u.known)) u.going;
+  known = subst (λ (n : ℕ). operation ≤ n) (sym s.begins) u.known;
   began = inr u.began;
   undone = λ d. elim d.1 [ inl e ↦ undecided operation d.0 e | inr t ↦ u.undone (d.0, t) ];
   below = asked_on (λ a. operation_of a.correlation ≡ operation → a.correlation < operation * 2 ^ 32 + later) item r (λ a h e. (now a h).1) (λ a h e. let b = u.below a h e in omega (arith, b, l));
-  ended = λ other outcome h. elim h [ inl e ↦ absurd (undecided other outcome e) | inr t ↦ inr (u.ended other outcome t) ];
 }
 
 under_way_quiet : (rules : Rules) (item : Item) (r : Record) (operation : ℕ) (begun : Begun) (then : Record) (next : ℕ) → IsQuiet rules item r → IsUnderWay rules r operation begun then next → IsUnderWay rules (item ∷ r) operation begun then next
@@ -137,13 +131,9 @@ over_on : (rules : Rules) (item : Item) (r : Record) (operation : ℕ) (outcome 
     → ((a : Asked) → Has (asked_now item r) a → operation_of a.correlation ≤ begun_in r) → IsOver rules r operation outcome → IsOver rules (item ∷ r) operation outcome
 over_on rules item r operation outcome s undecided unended now o = record {
   going = going_on rules item r s unended now o.going;
-  last = o.last ∙ sym s.begins;
+  known = subst (λ (n : ℕ). operation ≤ n) (sym s.begins) o.known;
   decided = inr o.decided;
   unended = λ e. elim e.1 [ inl x ↦ unended operation e.0 x | inr t ↦ o.unended (e.0, t) ];
-  ended = λ other how h. elim h [
-    | inl e ↦ absurd (undecided other how e)
-    | inr t ↦ elim (o.ended other how t) [ inl same ↦ inl same | inr x ↦ inr (inr x) ]
-  ];
 }
 
 over_quiet : (rules : Rules) (item : Item) (r : Record) (operation : ℕ) (outcome : Outcome) → IsQuiet rules item r → IsOver rules r operation outcome → IsOver rules (item ∷ r) operation outcome
@@ -213,9 +203,9 @@ network rules [] r operation begun then next h u = u
 network rules (step ∷ steps) r operation begun then next h u =
     under_way_quiet rules (Took step) (map Took steps ++ r) operation begun then next (quiet_network rules step (map Took steps ++ r) h.0) (network rules steps r operation begun then next h.1 u)
 
-pub network_idle : (rules : Rules) (steps : List Step) (r : Record) → AllNetwork steps → IsIdle rules r → IsIdle rules (map Took steps ++ r)
-network_idle rules [] r h i = i
-network_idle rules (step ∷ steps) r h i = idle_quiet rules (Took step) (map Took steps ++ r) (quiet_network rules step (map Took steps ++ r) h.0) (network_idle rules steps r h.1 i)
+pub network_going : (rules : Rules) (steps : List Step) (r : Record) → AllNetwork steps → IsGoing rules r → IsGoing rules (map Took steps ++ r)
+network_going rules [] r h i = i
+network_going rules (step ∷ steps) r h i = going_quiet rules (Took step) (map Took steps ++ r) (quiet_network rules step (map Took steps ++ r) h.0) (network_going rules steps r h.1 i)
 
 pub network_over : (rules : Rules) (steps : List Step) (r : Record) (operation : ℕ) (outcome : Outcome) → AllNetwork steps → IsOver rules r operation outcome → IsOver rules (map Took steps ++ r) operation outcome
 network_over rules [] r operation outcome h o = o
@@ -226,8 +216,8 @@ network_over rules (step ∷ steps) r operation outcome h o =
 pub given : (rules : Rules) (event : Event) (r : Record) (operation : ℕ) (begun : Begun) (then : Record) (next : ℕ) → IsUnderWay rules r operation begun then next → IsUnderWay rules (Given event ∷ r) operation begun then next
 given rules event r operation begun then next u = under_way_quiet rules (Given event) r operation begun then next (quiet_given rules event r) u
 
-pub given_idle : (rules : Rules) (event : Event) (r : Record) → IsIdle rules r → IsIdle rules (Given event ∷ r)
-given_idle rules event r i = idle_quiet rules (Given event) r (quiet_given rules event r) i
+pub given_going : (rules : Rules) (event : Event) (r : Record) → IsGoing rules r → IsGoing rules (Given event ∷ r)
+given_going rules event r i = going_quiet rules (Given event) r (quiet_given rules event r) i
 
 pub given_over : (rules : Rules) (event : Event) (r : Record) (operation : ℕ) (outcome : Outcome) → IsOver rules r operation outcome → IsOver rules (Given event ∷ r) operation outcome
 given_over rules event r operation outcome o = over_quiet rules (Given event) r operation outcome (quiet_given rules event r) o
@@ -236,8 +226,8 @@ given_over rules event r operation outcome o = over_quiet rules (Given event) r 
 pub waits : (rules : Rules) (t : Option ℕ) (r : Record) (operation : ℕ) (begun : Begun) (then : Record) (next : ℕ) → IsUnderWay rules r operation begun then next → IsUnderWay rules (Marked (Wait t) ∷ r) operation begun then next
 waits rules t r operation begun then next u = under_way_quiet rules (Marked (Wait t)) r operation begun then next (quiet_wait rules t r) u
 
-pub waits_idle : (rules : Rules) (t : Option ℕ) (r : Record) → IsIdle rules r → IsIdle rules (Marked (Wait t) ∷ r)
-waits_idle rules t r i = idle_quiet rules (Marked (Wait t)) r (quiet_wait rules t r) i
+pub waits_going : (rules : Rules) (t : Option ℕ) (r : Record) → IsGoing rules r → IsGoing rules (Marked (Wait t) ∷ r)
+waits_going rules t r i = going_quiet rules (Marked (Wait t)) r (quiet_wait rules t r) i
 
 pub waits_over : (rules : Rules) (t : Option ℕ) (r : Record) (operation : ℕ) (outcome : Outcome) → IsOver rules r operation outcome → IsOver rules (Marked (Wait t) ∷ r) operation outcome
 waits_over rules t r operation outcome o = over_quiet rules (Marked (Wait t)) r operation outcome (quiet_wait rules t r) o
@@ -246,8 +236,8 @@ waits_over rules t r operation outcome o = over_quiet rules (Marked (Wait t)) r 
 pub ordered : (rules : Rules) (order : Order) (answer : Told) (r : Record) (operation : ℕ) (begun : Begun) (then : Record) (next : ℕ) → CameTo order answer r → IsUnderWay rules r operation begun then next → IsUnderWay rules (Marked (Ordered order answer) ∷ r) operation begun then next
 ordered rules order answer r operation begun then next came u = under_way_quiet rules (Marked (Ordered order answer)) r operation begun then next (quiet_ordered rules order answer r came) u
 
-pub ordered_idle : (rules : Rules) (order : Order) (answer : Told) (r : Record) → CameTo order answer r → IsIdle rules r → IsIdle rules (Marked (Ordered order answer) ∷ r)
-ordered_idle rules order answer r came i = idle_quiet rules (Marked (Ordered order answer)) r (quiet_ordered rules order answer r came) i
+pub ordered_going : (rules : Rules) (order : Order) (answer : Told) (r : Record) → CameTo order answer r → IsGoing rules r → IsGoing rules (Marked (Ordered order answer) ∷ r)
+ordered_going rules order answer r came i = going_quiet rules (Marked (Ordered order answer)) r (quiet_ordered rules order answer r came) i
 
 pub ordered_over : (rules : Rules) (order : Order) (answer : Told) (r : Record) (operation : ℕ) (outcome : Outcome) → CameTo order answer r → IsOver rules r operation outcome → IsOver rules (Marked (Ordered order answer) ∷ r) operation outcome
 ordered_over rules order answer r operation outcome came o = over_quiet rules (Marked (Ordered order answer)) r operation outcome (quiet_ordered rules order answer r came) o
@@ -267,6 +257,10 @@ pub begun_took : (steps : List Step) (r : Record) → begun_in (map Took steps +
 begun_took [] r = refl
 begun_took (step ∷ steps) r = begun_took steps r
 
+pub turns_took : (steps : List Step) (r : Record) → turns_in (map Took steps ++ r) ≡ turns_in r
+turns_took [] r = refl
+turns_took (step ∷ steps) r = turns_took steps r
+
 pub events_took : (steps : List Step) (r : Record) → events_in (map Took steps ++ r) ≡ events_in r
 events_took [] r = refl
 events_took (step ∷ steps) r = events_took steps r
@@ -280,11 +274,8 @@ events_given event steps r = ap (λ (n : ℕ). 1 + n) (events_took steps r)
 -- ---- between operations
 
 -- before the first item no operation is under way
-pub empty_idle : (rules : Rules) → IsIdle rules []
-empty_idle rules = record {
-  going = record { kept = tt; undrained = λ node. refl; within = λ a h. absurd h; deletes = λ operation outcome h. absurd h };
-  ended = λ operation outcome h. absurd h;
-}
+pub empty_going : (rules : Rules) → IsGoing rules []
+empty_going rules = record { kept = tt; undrained = λ node. refl; within = λ a h. absurd h; deletes = λ operation outcome h. absurd h }
 
 -- what became done was begun
 done_begun : (rules : Rules) (r : Record) (operation : ℕ) (outcome : Outcome) → IsKept rules r → Has r (Decided operation outcome) → operation ≤ begun_in r
@@ -295,38 +286,37 @@ done_begun rules r operation outcome kept h =
     begun_most rules r operation d.begun kept (head_has _ d.began.0 r began)
 
 -- The next operation begins: no request of it was sent.
-pub begins : (rules : Rules) (r : Record) (begun : Begun) → IsIdle rules r → 1 + begun_in r < 2 ^ 31 → IsUnderWay rules (Marked (Begin (1 + begun_in r) begun) ∷ r) (1 + begun_in r) begun r 1
+pub begins : (rules : Rules) (r : Record) (begun : Begun) → IsGoing rules r → 1 + begun_in r < 2 ^ 31 → IsUnderWay rules (Marked (Begin (1 + begun_in r) begun) ∷ r) (1 + begun_in r) begun r 1
 begins rules r begun i room = record {
   going = record {
-    kept = (i.going.kept, record { next = refl; within = room });
-    undrained = i.going.undrained;
-    within = λ a h. let w = i.going.within a h in omega (arith, w);
-    deletes = deletes_still rules (Marked (Begin (1 + begun_in r) begun)) r i.going.kept (record { next = refl; within = room }) (λ operation outcome e. cc e) i.going.deletes;
+    kept = (i.kept, record { next = refl; within = room });
+    undrained = i.undrained;
+    within = λ a h. let w = i.within a h in omega (arith, w);
+    deletes = deletes_still rules (Marked (Begin (1 + begun_in r) begun)) r i.kept (record { next = refl; within = room }) (λ operation outcome e. cc e) i.deletes;
   };
-  last = refl;
+  known = omega arith;
   began = inl refl;
-  undone = λ d. elim d.1 [ inl e ↦ cc e | inr t ↦ (let b = done_begun rules r (1 + begun_in r) d.0 i.going.kept t in omega (arith, b)) ];
-  below = λ a h e. let w = i.going.within a h in absurd (omega (arith, w, e));
-  ended = λ other outcome h. elim h [ inl e ↦ absurd (cc e) | inr t ↦ inr (i.ended other outcome t) ];
+  undone = λ d. elim d.1 [ inl e ↦ cc e | inr t ↦ (let b = done_begun rules r (1 + begun_in r) d.0 i.kept t in omega (arith, b)) ];
+  below = λ a h e. let w = i.within a h in absurd (omega (arith, w, e));
 }
 
 differ : (a b : ℕ) → a < b → (a == b) ≡ false
 differ a b h = grind (arith, nat_tests)
 
 -- a new operation's pieces have no request yet
-pub no_requests : (rules : Rules) (r : Record) (begun : Begun) (piece : Piece) (a : Asked) → IsIdle rules r → piece.operation ≡ 1 + begun_in r → Has (asked (Marked (Begin (1 + begun_in r) begun) ∷ r)) a → is_of piece a ≡ false
+pub no_requests : (rules : Rules) (r : Record) (begun : Begun) (piece : Piece) (a : Asked) → IsGoing rules r → piece.operation ≡ 1 + begun_in r → Has (asked (Marked (Begin (1 + begun_in r) begun) ∷ r)) a → is_of piece a ≡ false
 no_requests rules r begun piece a i e h =
-    let w = i.going.within a h in
+    let w = i.within a h in
     ap (λ (b : Bool). b && (aims_at piece a.aim && fits piece (kind_of a.body) (id_of a.body))) (differ (operation_of a.correlation) piece.operation (omega (arith, w, e)))
 
 -- nor was anything drawn by it
-pub drew_nothing : (rules : Rules) (r : Record) (begun : Begun) → IsIdle rules r → DrewNothing (Marked (Begin (1 + begun_in r) begun) ∷ r) (1 + begun_in r)
+pub drew_nothing : (rules : Rules) (r : Record) (begun : Begun) → IsGoing rules r → DrewNothing (Marked (Begin (1 + begun_in r) begun) ∷ r) (1 + begun_in r)
 drew_nothing rules r begun i part attempt id blob h = elim h [
   | inl e ↦ cc e
   | inr t ↦ (
-      let d = drawn_at rules r (1 + begun_in r) part attempt id blob i.going.kept t in
+      let d = drawn_at rules r (1 + begun_in r) part attempt id blob i.kept t in
       let began = earlier_trans _ d.at r d.draws.began d.back in
-      let most = begun_most rules r (1 + begun_in r) _ i.going.kept (head_has _ d.draws.then r began) in
+      let most = begun_most rules r (1 + begun_in r) _ i.kept (head_has _ d.draws.then r began) in
       omega (arith, most))
 ]
 
@@ -384,6 +374,16 @@ aims rules r operation begun then next correlation part attempt u = under_way_qu
       ends = λ other outcome e. cc e;
     })
     u
+
+pub going_aimed : (rules : Rules) (r : Record) (correlation : ℕ) (part : Part) (attempt : ℕ) → IsGoing rules r → IsGoing rules (Aimed correlation part attempt ∷ r)
+going_aimed rules r correlation part attempt g = going_quiet rules (Aimed correlation part attempt) r
+    (record {
+      steady = record { keeps = tt; begins = refl; drains = λ node. refl };
+      asks = refl;
+      decides = λ other outcome e. cc e;
+      ends = λ other outcome e. cc e;
+    })
+    g
 
 -- and that is what the request of this correlation is for
 pub aimed_now : (r : Record) (correlation : ℕ) (part : Part) (attempt : ℕ) → aim_of correlation (Aimed correlation part attempt ∷ r) ≡ Some (record { part = part; attempt = attempt })
@@ -507,14 +507,17 @@ decides rules r operation begun then next outcome u follows uncancelled = record
   going = going_on rules (Decided operation outcome) r
       (record { keeps = record { begun = begun; began = (then, u.began); follows = follows; once = u.undone; at_cancel = λ e. absurd (uncancelled e) }; begins = refl; drains = λ node. refl })
       (λ other how e. cc e) (λ a h. absurd h) u.going;
-  last = u.last;
+  known = u.known;
   decided = inl refl;
   unended = λ e. elim e.1 [ inl x ↦ cc x | inr t ↦ live rules r operation begun then next u (e.0, t) ];
-  ended = λ other how h. elim h [ inl e ↦ inl cc | inr t ↦ inr (inr (u.ended other how t)) ];
 }
 
+-- an operation that became done in a turn did so
+pub decided_later : (item : Item) (r : Record) (operation : ℕ) (outcome : Outcome) (turn : ℕ) → IsDecidedIn r operation outcome turn → IsDecidedIn (item ∷ r) operation outcome turn
+decided_later item r operation outcome turn d = record { at = d.at; decided = inr d.decided; turn_is = d.turn_is }
+
 -- an operation becomes done once
-decided_once : (rules : Rules) (r : Record) (operation : ℕ) (a b : Outcome) (s t : Record) → IsKept rules r → Earlier (Decided operation a ∷ s) r → Earlier (Decided operation b ∷ t) r → (a ≡ b) × (s ≡ t)
+pub decided_once : (rules : Rules) (r : Record) (operation : ℕ) (a b : Outcome) (s t : Record) → IsKept rules r → Earlier (Decided operation a ∷ s) r → Earlier (Decided operation b ∷ t) r → (a ≡ b) × (s ≡ t)
 decided_once rules [] operation a b s t k h g = absurd (cc h)
 decided_once rules (item ∷ before) operation a b s t k h g = elim h [
   | inl e ↦ elim g [
@@ -530,25 +533,14 @@ decided_once rules (item ∷ before) operation a b s t k h g = elim h [
     again : (outcome : Outcome) (w : Item) (other : Outcome) → Decided operation outcome ≡ w → Keeps rules w before → Has before (Decided operation other) → ⊥
     again outcome w other e n h = let d : Decides rules before operation outcome = subst (λ v. Keeps rules v before) (sym e) n in d.once (other, h)
 
--- The operation has its end. None is under way any more, since each other one that became done had its end before.
-pub ends : (rules : Rules) (r : Record) (operation : ℕ) (outcome : Outcome) → IsOver rules r operation outcome → DeletesDrawn rules.shape r operation outcome → IsIdle rules (Marked (End operation outcome) ∷ r)
-ends rules r operation outcome o d = record {
-  going = going_with rules (Marked (End operation outcome)) r (record { keeps = ended; begins = refl; drains = λ node. refl }) (λ a h. absurd h) deleted o.going;
-  ended = λ other how h. elim h [
-    | inl e ↦ absurd (cc e)
-    | inr t ↦ elim (o.ended other how t) [ inl same ↦ inl (the_end other how same t) | inr x ↦ inr x ]
-  ];
-}
+-- The operation has its end, where each that goes first had its end before.
+pub ends : (rules : Rules) (r : Record) (operation : ℕ) (outcome : Outcome) → IsOver rules r operation outcome → DeletesDrawn rules.shape r operation outcome
+    → ((at : Record) → Earlier (Decided operation outcome ∷ at) r → outcome ≢ Outcome.Cancelled → (other : ℕ) (how : Outcome) (then : Record) → Earlier (Decided other how ∷ then) r → GoesFirst then other at operation → Has r (Marked (End other how)))
+    → IsGoing rules (Marked (End operation outcome) ∷ r)
+ends rules r operation outcome o d first = going_with rules (Marked (End operation outcome)) r (record { keeps = ended; begins = refl; drains = λ node. refl }) (λ a h. absurd h) deleted o.going
   where
     at : (then : Record) × Earlier (Decided operation outcome ∷ then) r
     at = has_at r (Decided operation outcome) o.decided
-
-    the_end : (other : ℕ) (how : Outcome) → other ≡ operation → Has r (Decided other how) → Marked (End other how) ≡ Marked (End operation outcome)
-    the_end other how same h =
-        let own : Has r (Decided operation how) = subst (λ (n : ℕ). Has r (Decided n how)) same h in
-        let b = has_at r (Decided operation how) own in
-        let q = decided_once rules r operation how outcome b.0 at.0 o.going.kept b.1 at.1 in
-        ap (λ (n : ℕ). Marked (End n how)) same ∙ ap (λ (w : Outcome). Marked (End operation w)) q.0
 
     apart : (other : ℕ) (id : BlobId) (blob : Blob) → Drawn other Top 0 id blob ≡ Marked (End operation outcome) → ⊥
     apart other id blob e = cc e
@@ -566,22 +558,8 @@ ends rules r operation outcome o d = record {
       | inr t ↦ deletes_on rules.shape (Marked (End operation outcome)) r other how (apart other) (o.going.deletes other how t)
     ]
 
-    not_first : (how : Outcome) (then : Record) → Earlier (Decided operation how ∷ then) r → GoesFirst then operation at.0 operation → ⊥
-    not_first how then e g =
-        let q = decided_once rules r operation how outcome then at.0 o.going.kept e at.1 in
-        let t : turns_in then ≡ turns_in at.0 = ap turns_in q.1 in
-        elim g [ inl l ↦ omega (arith, t, l) | inr x ↦ omega (arith, x.1) ]
-
     ended : Ends r operation outcome
-    ended = record {
-      at = at.0;
-      decided = at.1;
-      order = λ uncancelled other how then e g. elim (o.ended other how (head_has _ then r e)) [
-        | inl same ↦ absurd (not_first how then (subst (λ (n : ℕ). Earlier (Decided n how ∷ then) r) same e) (subst (λ (n : ℕ). GoesFirst then n at.0 operation) same g))
-        | inr x ↦ x
-      ];
-      once = o.unended;
-    }
+    ended = record { at = at.0; decided = at.1; order = first at.0 at.1; once = o.unended }
 
 -- ---- what a put gives up
 
@@ -639,7 +617,7 @@ removes rules r operation next node f id outcome bytes o g reads =
             begins = refl;
             drains = λ n. refl;
           })
-          (λ other how e. cc e) (λ other how e. cc e) (λ a h. let n = now a h in omega (arith, n.0, o.last)) o,
+          (λ other how e. cc e) (λ other how e. cc e) (λ a h. let n = now a h in omega (arith, n.0, o.known)) o,
       asked_below item r operation next now g.below,
     )
 
@@ -654,9 +632,39 @@ removes_refused rules r operation next node f id outcome bytes o small g reads =
     let kept : RefusesSome rules.shape r node (frame_in bytes) (router_frame (frame_in bytes)) = subst (λ (o : Option Frame). RefusesSome rules.shape r node o (router_frame (frame_in bytes))) (sym reads)
     (subst (λ (o : Option Frame). RefusesSome rules.shape r node (Some f) o) (sym own) (sends_removal rules r operation next node f id g, o.going.undrained node)) in (
       over_on rules item r operation outcome (record { keeps = kept; begins = refl; drains = λ n. refl })
-          (λ other how e. cc e) (λ other how e. cc e) (λ a h. let n = now a h in omega (arith, n.0, o.last)) o,
+          (λ other how e. cc e) (λ other how e. cc e) (λ a h. let n = now a h in omega (arith, n.0, o.known)) o,
       asked_below item r operation next now g.below,
     )
   where
     below : (c : ℕ) → c ≡ operation * 2 ^ 32 + next → next < 2 ^ 32 → operation < 2 ^ 31 → c < 2 ^ 63
     below c e l m = omega arith
+
+-- ---- what is another operation's
+
+pub under_way_apart : (rules : Rules) (item : Item) (r : Record) (operation : ℕ) (begun : Begun) (then : Record) (next : ℕ) → IsGoing rules (item ∷ r) → begun_in r ≤ begun_in (item ∷ r) → IsApart operation item r → IsUnderWay rules r operation begun then next
+    → IsUnderWay rules (item ∷ r) operation begun then next
+under_way_apart rules item r operation begun then next going more apart u = record {
+  going = going;
+  known = let k = u.known in omega (arith, k, more);
+  began = inr u.began;
+  undone = λ d. elim d.1 [ inl e ↦ apart.decides d.0 e | inr t ↦ u.undone (d.0, t) ];
+  below = asked_on (λ a. operation_of a.correlation ≡ operation → a.correlation < operation * 2 ^ 32 + next) item r (λ a h e. absurd (apart.asks a h e)) u.below;
+}
+
+pub over_apart : (rules : Rules) (item : Item) (r : Record) (operation : ℕ) (outcome : Outcome) → IsGoing rules (item ∷ r) → begun_in r ≤ begun_in (item ∷ r) → IsApart operation item r → IsOver rules r operation outcome → IsOver rules (item ∷ r) operation outcome
+over_apart rules item r operation outcome going more apart o = record {
+  going = going;
+  known = let k = o.known in omega (arith, k, more);
+  decided = inr o.decided;
+  unended = λ e. elim e.1 [ inl x ↦ apart.ends e.0 x | inr t ↦ o.unended (e.0, t) ];
+}
+
+-- how many began never falls
+pub begun_rises : (item : Item) (r : Record) → begun_in r ≤ begun_in (item ∷ r)
+begun_rises (Marked (Begin operation begun)) r = omega arith
+begun_rises (Marked mark) r = marks mark
+  where
+    marks : (mark : HistoryMark) → begun_in r ≤ begun_in (Marked mark ∷ r)
+    marks (Begin operation begun) = omega arith
+    marks _ = omega arith
+begun_rises _ r = omega arith

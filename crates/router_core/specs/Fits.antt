@@ -1,5 +1,5 @@
 -- What a router keeps to, whatever its network tells.
-use Rattle.std.specs.Prelude.{◌≡◌, ℕ, ◌^◌, ◌<◌, true, List, [], ◌∷◌}
+use Rattle.std.specs.Prelude.{◌≡◌, ℕ, ◌+◌, ◌^◌, ◌<◌, ◌≤◌, true, List, [], ◌∷◌, length}
 use Rattle.blob_id.specs.Id.{partition_of}
 use Rattle.operation.specs.Calls.{Call, Cancelled}
 use Rattle.quorum_op.specs.declared.outcome.Outcome.{Outcome}
@@ -12,13 +12,15 @@ use Rattle.router_core.specs.declared.router.Stage.{Stage}
 use Rattle.router_core.specs.Jobs.{Job, IsServed, WasGiven, id_of, plan_for}
 use Rattle.router_core.specs.Ops.{op_plan, op_stands}
 
--- a router: its cluster, the greatest moment that was told in ms, how many events it took, how many operations began, and where it stands
+-- a router: its cluster, the greatest moment that was told in ms, how many events it took, how many operations began, how many events and
+-- script lines there were, and where each operation stands that is live
 pub record RouterView : Type 0 where
   pub shape : Shape
   pub clock : ℕ
   pub events : ℕ
   pub begun : ℕ
-  pub stage : Stage
+  pub turns : ℕ
+  pub stages : List Stage
 
 -- it wasn't cancelled
 abbrev pub GoesUncancelled : List Call → Type 0
@@ -49,14 +51,23 @@ IsAnswer shape Outcome.Memory = ⊥
 IsAnswer shape Outcome.Cancelled = ⊥
 IsAnswer shape _ = Unit {0}
 
--- the live operation is the one that began last
+-- an operation that is live began, and is what an operation may be
 abbrev pub FitsStage : Shape → ℕ → Stage → Type 0
-FitsStage shape begun Stage.Idle = Unit {0}
-FitsStage shape begun (Stage.UnderWay live) = (live.operation ≡ begun) × FitsLive shape live
-FitsStage shape begun (Stage.Over operation outcome) = (operation ≡ begun) × IsAnswer shape outcome
+FitsStage shape begun (Stage.UnderWay live) = (live.operation ≤ begun) × FitsLive shape live
+FitsStage shape begun (Stage.Over operation outcome turn) = (operation ≤ begun) × IsAnswer shape outcome
+
+abbrev pub number_of : Stage → ℕ
+number_of (Stage.UnderWay live) = live.operation
+number_of (Stage.Over operation outcome turn) = operation
+
+-- each of them does, and their numbers rise from n on
+abbrev pub FitStages : Shape → ℕ → ℕ → List Stage → Type 0
+FitStages shape begun n [] = Unit {0}
+FitStages shape begun n (stage ∷ stages) = FitsStage shape begun stage × (n ≤ number_of stage) × FitStages shape begun (number_of stage + 1) stages
 
 -- what is true of every router
 pub record Fits (router : RouterView) : Type 0 where
   pub shape : IsShape router.shape
   pub number : router.begun < 2 ^ 31
-  pub stage : FitsStage router.shape router.begun router.stage
+  pub few : length router.stages ≤ 16
+  pub stages : FitStages router.shape router.begun 1 router.stages

@@ -1,20 +1,19 @@
--- Where a router stands that has one operation at a time. All lists have the newest item first.
-use Rattle.std.specs.Prelude.{◌≡◌, ℕ, ◌+◌, ◌*◌, ◌^◌, ◌<◌, ◌≤◌, false, ◌⊎◌}
+-- Where the operations of a router stand, each by itself. All lists have the newest item first.
+use Rattle.std.specs.Prelude.{◌≡◌, ℕ, ◌+◌, ◌*◌, ◌^◌, ◌<◌, ◌≤◌, false, ◌∷◌}
 use Rattle.quorum_op.specs.declared.outcome.Outcome.{Outcome}
 use Rattle.world_model.specs.declared.history.Begun.{Begun}
-use Rattle.world_model.specs.declared.history.HistoryMark.TheVariants.{End}
 use Rattle.world_model.specs.declared.shape.Shape.{Shape}
-use Rattle.world_model.specs.Lists.{Has}
+use Rattle.world_model.specs.Lists.{Earlier, Has}
 use Rattle.world_model.specs.Notes.{Asked, asked, is_drained, operation_of}
 use Rattle.world_model.specs.Outcomes.{BeganAt}
-use Rattle.world_model.specs.Record.{Part, Marked, Aimed, Decided, Record}
+use Rattle.world_model.specs.Record.{Part, Aimed, Decided, Record, turns_in}
 use Rattle.world_model.specs.Router.{IsKept, IsDone, HasEnded, begun_in}
 use Rattle.world_model.specs.Rules.{Rules, in_turn}
 use Rattle.router_core.specs.Removals.{DeletesWhatFailed}
 
--- one operation at a time, each of a blob that is one piece, tried once, with the partitions in turn
+-- sixteen operations at a time, each of a blob that is one piece, tried once, with the partitions in turn
 abbrev pub simple_rules : Shape → Rules
-simple_rules shape = record { shape = shape; window = 1; limit = shape.chunk; attempts = 1; choose = in_turn shape }
+simple_rules shape = record { shape = shape; window = 16; limit = shape.chunk; attempts = 1; choose = in_turn shape }
 
 -- what holds of the record at any time
 pub record IsGoing (rules : Rules) (record' : Record) : Type 0 where
@@ -23,27 +22,26 @@ pub record IsGoing (rules : Rules) (record' : Record) : Type 0 where
   pub within : (a : Asked) → Has (asked record') a → operation_of a.correlation ≤ begun_in record'
   pub deletes : DeletesWhatFailed rules.shape record'
 
--- no operation is under way: each that became done has its end
-pub record IsIdle (rules : Rules) (record' : Record) : Type 0 where
-  pub going : IsGoing rules record'
-  pub ended : (operation : ℕ) (outcome : Outcome) → Has record' (Decided operation outcome) → Has record' (Marked (End operation outcome))
-
--- The last operation, begun so when the record was `then`, isn't done. Its requests so far have numbers below `next`.
+-- An operation, begun so when the record was `then`, isn't done. Its requests so far have numbers below `next`.
 pub record IsUnderWay (rules : Rules) (record' : Record) (operation : ℕ) (begun : Begun) (then : Record) (next : ℕ) : Type 0 where
   pub going : IsGoing rules record'
-  pub last : operation ≡ begun_in record'
+  pub known : operation ≤ begun_in record'
   pub began : BeganAt record' operation begun then
   pub undone : IsDone record' operation → ⊥
   pub below : (a : Asked) → Has (asked record') a → operation_of a.correlation ≡ operation → a.correlation < operation * 2 ^ 32 + next
-  pub ended : (other : ℕ) (outcome : Outcome) → Has record' (Decided other outcome) → Has record' (Marked (End other outcome))
 
--- the last operation is done so, and its end doesn't stand yet
+-- an operation is done so, and its end doesn't stand yet
 pub record IsOver (rules : Rules) (record' : Record) (operation : ℕ) (outcome : Outcome) : Type 0 where
   pub going : IsGoing rules record'
-  pub last : operation ≡ begun_in record'
+  pub known : operation ≤ begun_in record'
   pub decided : Has record' (Decided operation outcome)
   pub unended : HasEnded record' operation → ⊥
-  pub ended : (other : ℕ) (how : Outcome) → Has record' (Decided other how) → (other ≡ operation) ⊎ Has record' (Marked (End other how))
+
+-- the operation became done so, in this turn: behind so many events and script lines
+pub record IsDecidedIn (record' : Record) (operation : ℕ) (outcome : Outcome) (turn : ℕ) : Type 0 where
+  pub at : Record
+  pub decided : Earlier (Decided operation outcome ∷ at) record'
+  pub turn_is : turns_in at ≡ turn
 
 -- It was said what requests are for, of operations that began.
 abbrev pub AimsWithin : Record → Type 0

@@ -1,5 +1,5 @@
 -- What a router keeps, against the record of its session.
-use Rattle.std.specs.Prelude.{◌≡◌, ℕ, ◌+◌, ◌<◌, ◌≤◌, Bool, true, false, List, [], ◌∷◌, length, Option, Some, None}
+use Rattle.std.specs.Prelude.{◌≡◌, ℕ, ◌+◌, ◌^◌, ◌<◌, ◌≤◌, ◌⊎◌, Bool, true, false, List, [], ◌∷◌, length, map, Option, Some, None}
 use Rattle.operation.specs.Calls.{Call}
 use Rattle.operation.specs.declared.sending.Sending.{Sending}
 use Rattle.operation.specs.Wants.{next_request}
@@ -8,16 +8,17 @@ use Rattle.quorum_op.specs.declared.outcome.Outcome.{Outcome}
 use Rattle.world_model.specs.declared.history.HistoryMark.{HistoryMark}
 use Rattle.world_model.specs.declared.history.HistoryMark.TheVariants.{End}
 use Rattle.world_model.specs.declared.shape.Shape.{Shape}
+use Rattle.world_model.specs.Lists.{Has}
 use Rattle.world_model.specs.Notes.{clock_of, events_in}
-use Rattle.world_model.specs.Record.{Record}
+use Rattle.world_model.specs.Record.{Decided, Marked, Record, turns_in}
 use Rattle.world_model.specs.Router.{begun_in}
 use Rattle.router_core.specs.declared.ending.Ended.{Ended}
 use Rattle.router_core.specs.declared.live.Live.{Live}
 use Rattle.router_core.specs.declared.router.Stage.{Stage}
-use Rattle.router_core.specs.Fits.{DoesJob, RouterView}
+use Rattle.router_core.specs.Fits.{DoesJob, RouterView, number_of}
 use Rattle.router_core.specs.Jobs.{Job, DrewOnly, EachIs, GaveUpNothing, GivesUp, GoOnFrom, GoesOn, HasDrawnId, IsForPiece, begun_as, piece_for, plan_for, target_for}
 use Rattle.router_core.specs.Removals.{DeletesDrawn, DeletesSoon}
-use Rattle.router_core.specs.Stages.{simple_rules, AimsBelow, AimsWithin, AsksBelow, IsIdle, IsUnderWay, IsOver}
+use Rattle.router_core.specs.Stages.{simple_rules, AimsBelow, AimsWithin, AsksBelow, IsDecidedIn, IsGoing, IsUnderWay, IsOver}
 
 -- how many requests it wants at most of each replica, in the order of asking: every replica that there may be
 abbrev pub order : List ℕ
@@ -67,6 +68,7 @@ pub record Leaves (shape : Shape) (record' : Record) (live : Live) (outcome : Ou
   pub next : ℕ
   pub from : ℕ
   pub over : IsOver (simple_rules shape) record' live.operation outcome
+  pub now : IsDecidedIn record' live.operation outcome (turns_in record')
   pub asks : AsksBelow record' live.operation next
   pub aims : AimsBelow record' live.operation next
   pub drawn : HasDrawnId record' live.operation moment job
@@ -90,44 +92,96 @@ IsSettled shape record' live outcome = (leaves : Leaves shape record' live outco
 abbrev pub GivesAllUp : Shape → Record → Live → Outcome → List Sending → Type 0
 GivesAllUp shape record' live outcome rest = Leaves shape record' live outcome rest × DeletesSoon shape record' live.operation outcome rest
 
--- the operation is over, and no replica is left to be asked to delete what it drew
-pub record HasLeft (shape : Shape) (record' : Record) (operation : ℕ) (outcome : Outcome) : Type 0 where
+-- the operation is over since this turn, and no replica is left to be asked to delete what it drew
+pub record HasLeft (shape : Shape) (record' : Record) (operation : ℕ) (outcome : Outcome) (turn : ℕ) : Type 0 where
   pub over : IsOver (simple_rules shape) record' operation outcome
+  pub since : IsDecidedIn record' operation outcome turn
   pub deletes : DeletesDrawn shape record' operation outcome
 
 abbrev pub OwnsStage : Shape → Record → Stage → Type 0
-OwnsStage shape record' Stage.Idle = IsIdle (simple_rules shape) record'
 OwnsStage shape record' (Stage.UnderWay live) = OwnsLive shape record' live []
-OwnsStage shape record' (Stage.Over operation outcome) = HasLeft shape record' operation outcome
-
--- the clock, the number of events, and how many operations began, as a router keeps them
-pub record Counts (clock events begun : ℕ) (record' : Record) : Type 0 where
-  pub clock_is : clock ≡ clock_of record'
-  pub events_are : events ≡ events_in record'
-  pub begun_are : begun ≡ begun_in record'
-  pub aims : AimsWithin record'
-
--- what is so, where the router keeps this beside it
-abbrev pub At : (Record → Type 0) → (clock events begun : ℕ) → Record → Type 0
-At holds clock events begun record' = Counts clock events begun record' × holds record'
-
--- what the router keeps is what the record shows
-pub record Owns (router : RouterView) (record' : Record) : Type 0 where
-  pub counts : Counts router.clock router.events router.begun record'
-  pub stage : OwnsStage router.shape record' router.stage
+OwnsStage shape record' (Stage.Over operation outcome turn) = HasLeft shape record' operation outcome turn
 
 abbrev pub StageWaits : Shape → Record → Stage → Type 0
 StageWaits shape record' (Stage.UnderWay live) = Waits shape record' live
 StageWaits shape record' _ = Unit {0}
 
--- A router at rest, between two calls: what it keeps is what the record shows, and an operation under way is pending, with each wanted request sent.
-pub record Stands (router : RouterView) (record' : Record) : Type 0 where
-  pub owns : Owns router record'
-  pub waits : StageWaits router.shape record' router.stage
+-- what the router keeps of an operation at rest
+abbrev pub RestsStage : Shape → Record → Stage → Type 0
+RestsStage shape record' stage = OwnsStage shape record' stage × StageWaits shape record' stage
 
-abbrev pub is_idle : Stage → Bool
-is_idle Stage.Idle = true
+-- P holds of each
+abbrev pub EachStage : (Stage → Type 0) → List Stage → Type 0
+EachStage P [] = Unit {0}
+EachStage P (stage ∷ stages) = P stage × EachStage P stages
+
+-- the operations that are live, by their numbers
+abbrev pub live_in : List Stage → List ℕ
+live_in stages = map number_of stages
+
+-- one of them is over so
+abbrev pub HasOver : List Stage → ℕ → Outcome → Type 0
+HasOver [] operation outcome = ⊥
+HasOver (stage ∷ stages) operation outcome = ((turn : ℕ) × (stage ≡ Stage.Over operation outcome turn)) ⊎ HasOver stages operation outcome
+
+-- none is live
+abbrev pub is_idle : List ℕ → Bool
+is_idle [] = true
 is_idle _ = false
+
+-- What a router keeps beside the operation that it works at: how many began, how many events and script lines there were, which one it works
+-- at, and the others, those at rest and those that may want more.
+pub record Beside : Type 0 where
+  pub begun : ℕ
+  pub turns : ℕ
+  pub at : Option ℕ
+  pub rest : List Stage
+  pub more : List Stage
+
+-- the router works at none of them, or at this one
+abbrev pub among : (begun turns : ℕ) → (rest more : List Stage) → Beside
+among begun turns rest more = record { begun = begun; turns = turns; at = None; rest = rest; more = more }
+
+abbrev pub around : (begun turns : ℕ) → ℕ → (rest more : List Stage) → Beside
+around begun turns operation rest more = record { begun = begun; turns = turns; at = Some operation; rest = rest; more = more }
+
+abbrev pub IsOther : ℕ → Stage → Type 0
+IsOther operation stage = (number_of stage ≡ operation → ⊥) × (number_of stage < 2 ^ 31)
+
+-- none of the others is this operation
+pub record AreOthers (operation : ℕ) (beside : Beside) : Type 0 where
+  pub at : beside.at ≡ Some operation
+  pub rest : EachStage (IsOther operation) beside.rest
+  pub more : EachStage (IsOther operation) beside.more
+
+-- each operation that became done has its end, or is kept as over, or is the one that the router works at
+abbrev pub EachEnds : Beside → Record → Type 0
+EachEnds beside record' = (operation : ℕ) (outcome : Outcome) → Has record' (Decided operation outcome)
+    → HasOver beside.rest operation outcome ⊎ HasOver beside.more operation outcome ⊎ Has record' (Marked (End operation outcome)) ⊎ (beside.at ≡ Some operation)
+
+-- the clock, the number of events, how many operations began, and the other operations, as a router keeps them
+pub record Counts (shape : Shape) (clock events : ℕ) (beside : Beside) (record' : Record) : Type 0 where
+  pub clock_is : clock ≡ clock_of record'
+  pub events_are : events ≡ events_in record'
+  pub begun_are : beside.begun ≡ begun_in record'
+  pub turns_are : beside.turns ≡ turns_in record'
+  pub aims : AimsWithin record'
+  pub going : IsGoing (simple_rules shape) record'
+  pub rest : EachStage (RestsStage shape record') beside.rest
+  pub more : EachStage (OwnsStage shape record') beside.more
+  pub ended : EachEnds beside record'
+
+-- what is so, where the router keeps this beside it
+abbrev pub At : Shape → (Record → Type 0) → (clock events : ℕ) → Beside → Record → Type 0
+At shape holds clock events beside record' = Counts shape clock events beside record' × holds record'
+
+-- what the router keeps is what the record shows
+abbrev pub Owns : RouterView → Record → Type 0
+Owns router record' = Counts router.shape router.clock router.events (among router.begun router.turns [] router.stages) record'
+
+-- A router at rest, between two calls: each operation under way is pending, with each wanted request sent.
+abbrev pub Stands : RouterView → Record → Type 0
+Stands router record' = Counts router.shape router.clock router.events (among router.begun router.turns router.stages []) record'
 
 abbrev pub is_under_way : Stage → Bool
 is_under_way (Stage.UnderWay live) = true
@@ -152,7 +206,3 @@ after_settling shape record' live (Some outcome) = IsSettled shape record' live 
 abbrev pub after_leaving : Shape → Record → Live → Option Outcome → Type 0
 after_leaving shape record' live None = Waits shape record' live
 after_leaving shape record' live (Some outcome) = GivesAllUp shape record' live outcome []
-
--- what the router keeps of a stage at rest
-abbrev pub RestsStage : Shape → Record → Stage → Type 0
-RestsStage shape record' stage = OwnsStage shape record' stage × StageWaits shape record' stage

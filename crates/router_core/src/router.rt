@@ -1,26 +1,30 @@
 //! What a router keeps.
 
-ghost use Rattle.std.specs.Prelude.{◌≡◌, ◌%◌, ◌<◌, [], true, Some};
+ghost use Rattle.std.specs.Prelude.{◌≡◌, ◌+◌, ◌%◌, ◌<◌, [], IfOk};
 ghost use Rattle.world_model.specs.Shape.{IsShape};
-ghost use Rattle.router_core.specs.Stands.{Stands, is_idle};
+ghost use Rattle.router_core.specs.Stands.{Stands};
 
 use crate::live::Live;
+use blob_id::Memory;
 use quorum_op::Outcome;
+use std::alloc::Global;
 use std::marker::Model;
 use world_model::Shape;
 
-/// Where a router stands.
+/// Where a live operation stands.
 #[derive(Drop)]
 pub enum Stage {
-    /// No operation is live.
-    Idle,
-    /// An operation waits for replies.
+    /// It waits for replies.
     UnderWay(Live),
-    /// The last operation is done, and its end wasn't given yet.
-    Over { operation: u32, outcome: Outcome },
+    /// It became done in this turn, and its end wasn't given yet.
+    Over {
+        operation: u32,
+        outcome: Outcome,
+        turn: u64,
+    },
 }
 
-/// A router that has one operation at a time. Operations are numbered from 1.
+/// A router that has sixteen operations at a time. Operations are numbered from 1.
 #[derive(Drop)]
 pub struct Router {
     pub(crate) shape: Shape,
@@ -30,7 +34,10 @@ pub struct Router {
     pub(crate) events: u64,
     /// How many operations began.
     pub(crate) begun: u32,
-    pub(crate) stage: Stage,
+    /// How many events and script lines there were: operations that began, and orders.
+    pub(crate) turns: u64,
+    /// The live operations, by their numbers.
+    pub(crate) stages: Vec<Stage>,
 }
 
 impl Model for Router {
@@ -38,26 +45,27 @@ impl Model for Router {
 
     ghost Value = { RouterView };
 
-    ghost view = { λ r. record { shape = r.shape; clock = r.clock; events = r.events; begun = r.begun; stage = r.stage } };
+    ghost view = { λ r. record { shape = r.shape; clock = r.clock; events = r.events; begun = r.begun; turns = r.turns; stages = r.stages.items } };
 
-    ghost invariant = { λ r. Fits (record { shape = r.shape; clock = r.clock; events = r.events; begun = r.begun; stage = r.stage }) };
+    ghost invariant = { λ r. Fits (record { shape = r.shape; clock = r.clock; events = r.events; begun = r.begun; turns = r.turns; stages = r.stages.items }) };
 }
 
 impl Router {
     /// A router that did nothing yet.
-    pub fn new(shape: Shape) -> Router
+    pub fn new(alloc: Global, shape: Shape) -> Router
         requires shape { IsShape shape }
         ensures stands { Stands result [] }
         ensures shape { result.shape ≡ shape }
         ensures begun { result.begun ≡ 0 }
-        ensures idle { is_idle result.stage ≡ true }
+        ensures idle { result.stages ≡ [] }
     {
         Router {
             shape,
             clock: 0,
             events: 0,
             begun: 0,
-            stage: Stage::Idle,
+            turns: 0,
+            stages: Vec::new(alloc),
         }
     }
 
@@ -81,5 +89,15 @@ impl Router {
         ensures within { result < self.now.shape.partitions }
     {
         self.begun % self.shape.partitions
+    }
+
+    /// The turn that an event or a script line begins. A count that is full ends as want of memory does.
+    pub(crate) fn next_turn(&self) -> Result<u64, Memory>
+        ensures { IfOk result (λ turn. turn ≡ self.now.turns + 1) }
+    {
+        match self.turns.checked_add(1) {
+            Some(turn) => Ok(turn),
+            None => Err(Memory),
+        }
     }
 }

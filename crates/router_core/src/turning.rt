@@ -1,23 +1,20 @@
 //! Taking events.
 
-ghost use Rattle.std.specs.Prelude.{◌≡◌, ℕ, ◌+◌, ◌^◌, ◌<◌, ◌≤◌, false, List, ◌∷◌, ◌++◌, map, Some, OnOk};
+ghost use Rattle.std.specs.Prelude.{◌≡◌, ◌⊎◌, ℕ, ◌+◌, ◌^◌, ◌<◌, ◌≤◌, true, false, List, [], Some, OnOk};
+ghost use Rattle.std.specs.Result.{is_ok};
+ghost use Rattle.std.specs.List.{list_all};
 ghost use Rattle.world_model.specs.declared.history.HistoryMark.{HistoryMark};
 ghost use Rattle.world_model.specs.declared.shape.Shape.{Shape};
-ghost use Rattle.world_model.specs.Fabric.{KeepsRun};
-ghost use Rattle.world_model.specs.declared.step.Event.{Event};
-ghost use Rattle.world_model.specs.declared.step.Step.{Step};
-ghost use Rattle.world_model.specs.Notes.{events_in};
-ghost use Rattle.world_model.specs.Record.{Given, Record, Took};
-ghost use Rattle.world_model.specs.Told.{AllNetwork};
-ghost use Rattle.router_core.specs.Fits.{FitsStage};
-ghost use Rattle.op_table.specs.Heard.{heard_of};
-ghost use Rattle.router_core.specs.Stands.{Owns, OwnsStage, Stands, is_idle, is_under_way};
+ghost use Rattle.world_model.specs.Advancing.{Advances};
+ghost use Rattle.op_table.specs.Addressed.{heard_by};
+ghost use Rattle.router_core.specs.Fits.{FitStages, FitsStage, number_of};
+ghost use Rattle.router_core.specs.Stands.{Stands, is_under_way, live_in};
 ghost use Rattle.router_core.specs.Ties.{Ties};
-ghost use Rattle.router_core.specs.Turning.{clock_after};
+ghost use Rattle.router_core.specs.Turning.{clock_after, AllTold, IsToldStage};
 
 use crate::router::{Router, Stage};
 use blob_id::Memory;
-use op_table::{Heard, hear};
+use op_table::{Heard, hear, take_for};
 use std::alloc::Global;
 use world_model::Fabric;
 
@@ -28,81 +25,102 @@ impl Router {
         ensures ties { OnOk result ((marks : List HistoryMark) → Ties (Stands self.old) (F.told fabric.old) marks → Ties (Stands self.new) (F.told fabric.new) marks) }
         ensures events { OnOk result (self.new.events ≡ self.old.events + 1) }
         ensures count { OnOk result (self.new.events < 2 ^ 64) }
-        ensures idle { OnOk result (is_idle self.new.stage ≡ is_idle self.old.stage) }
+        ensures live { OnOk result (live_in self.new.stages ≡ live_in self.old.stages) }
         ensures begun { self.new.begun ≡ self.old.begun }
         ensures shape { self.new.shape ≡ self.old.shape }
-        ensures opened { F.opened fabric.new ≡ F.opened fabric.old }
-        ensures later { F.faults fabric.old ≤ F.faults fabric.new }
-        ensures run { (cluster : Shape) (place : List ℕ) → KeepsRun (F.runs fabric.old cluster place) (F.runs fabric.new cluster place) }
-        ensures goes { OnOk result (F.goes fabric.old fabric.new) }
-        ensures falls { F.falls fabric.old fabric.new }
+        ensures net { Advances F.faults F.opened F.runs F.advances fabric.old fabric.new (is_ok result) }
     {
         // A count that is full ends as want of memory does.
         let Some(events) = self.events.checked_add(1) else {
             return Err(Memory);
         };
+        let turn = self.next_turn()?;
         let event = fabric.next()?;
-        let mut heard = hear(alloc, &event)?;
-        self.take(alloc, &mut heard, events)?;
+        let heard = hear(alloc, &event)?;
+        self.take(alloc, heard, events, turn)?;
         self.settle(alloc, fabric)?;
         Ok(())
     }
 
-    /// Takes an event by what was heard of it, which is then so many.
-    fn take(&mut self, alloc: Global, heard: &mut Heard, events: u64) -> Result<(), Memory>
+    /// Takes an event by what was heard of it, which is then so many, in this turn.
+    fn take(&mut self, alloc: Global, heard: Heard, events: u64, turn: u64) -> Result<(), Memory>
         requires next { events ≡ self.old.events + 1 }
-        // The record goes on by what the network did and the event that it gave.
-        ensures owns { OnOk result ((event : Event) (steps : List Step) (record' : Record) → heard.old ≡ heard_of event → AllNetwork steps → Owns self.old record' → Owns self.new (Given event ∷ (map Took steps ++ record'))) }
-        ensures events { self.new.events ≡ events }
-        ensures idle { is_idle self.new.stage ≡ is_idle self.old.stage }
+        requires turn { turn ≡ self.old.turns + 1 }
+        ensures told { OnOk result (AllTold heard self.old.events self.old.stages self.new.stages) }
+        ensures clock { self.new.clock ≡ clock_after heard self.old.clock }
+        ensures events { self.new.events ≡ self.old.events + 1 }
+        ensures turns { self.new.turns ≡ self.old.turns + 1 }
+        ensures live { live_in self.new.stages ≡ live_in self.old.stages }
         ensures begun { self.new.begun ≡ self.old.begun }
         ensures shape { self.new.shape ≡ self.old.shape }
     {
-        self.clock = clock_after(heard, self.clock);
+        self.clock = clock_after(&heard, self.clock);
         let before = self.events;
         self.events = events;
-        tell_stage(&mut self.stage, alloc, heard, before)
+        self.turns = turn;
+        tell_all(&mut self.stages, alloc, heard, before)
     }
 
-    /// Takes events until the operation that is under way is over. Each turn counts one more event, so it returns at the latest where the
+    /// Takes events until an operation is over, or none is live. Each turn counts one more event, so it returns at the latest where the
     /// count is full.
     pub(crate) fn run<F: Fabric>(&mut self, alloc: Global, fabric: &mut F) -> Result<(), Memory>
         requires open { F.opened fabric.old ≡ Some self.old.shape }
         ensures ties { OnOk result ((marks : List HistoryMark) → Ties (Stands self.old) (F.told fabric.old) marks → Ties (Stands self.new) (F.told fabric.new) marks) }
-        ensures over { OnOk result (is_under_way self.new.stage ≡ false) }
-        ensures idle { OnOk result (is_idle self.new.stage ≡ is_idle self.old.stage) }
+        ensures over { OnOk result ((self.new.stages ≡ []) ⊎ (list_all is_under_way self.new.stages ≡ false)) }
+        ensures live { OnOk result (live_in self.new.stages ≡ live_in self.old.stages) }
         ensures begun { self.new.begun ≡ self.old.begun }
         ensures shape { self.new.shape ≡ self.old.shape }
-        ensures opened { F.opened fabric.new ≡ F.opened fabric.old }
-        ensures later { F.faults fabric.old ≤ F.faults fabric.new }
-        ensures run { (cluster : Shape) (place : List ℕ) → KeepsRun (F.runs fabric.old cluster place) (F.runs fabric.new cluster place) }
-        ensures goes { OnOk result (F.goes fabric.old fabric.new) }
-        ensures falls { F.falls fabric.old fabric.new }
+        ensures net { Advances F.faults F.opened F.runs F.advances fabric.old fabric.new (is_ok result) }
     {
-        'turning: while matches!(self.stage, Stage::UnderWay(_)) {
+        'turning: while !self.stages.is_empty() && all_under_way(self.stages.as_slice()) {
             self.turn(alloc, fabric)?;
         }
         Ok(())
     }
 }
 
-/// Tells the operation that is under way what was heard, behind so many events.
+/// No operation is over.
+fn all_under_way(stages: &[Stage]) -> bool
+    ensures { result ≡ list_all is_under_way stages.now }
+{
+    stages
+        .iter()
+        .all(|stage| matches!(stage, Stage::UnderWay(_)))
+}
+
+/// Tells each operation what it hears of an event, behind so many events.
+fn tell_all(stages: &mut Vec<Stage>, alloc: Global, heard: Heard, events: u64) -> Result<(), Memory>
+    requires fits { (shape : Shape) × (begun : ℕ) × (begun < 2 ^ 31) × FitStages shape begun 1 stages.old.items }
+    ensures told { OnOk result (AllTold heard events stages.old.items stages.new.items) }
+    ensures fits { (shape : Shape) (begun : ℕ) → FitStages shape begun 1 stages.old.items → FitStages shape begun 1 stages.new.items }
+    ensures live { live_in stages.new.items ≡ live_in stages.old.items }
+{
+    let mut left = heard;
+    for place in 0..stages.len() {
+        let stage = &mut stages[place];
+        tell_stage(stage, alloc, &mut left, events)?;
+    }
+    Ok(())
+}
+
+/// Tells an operation what it hears. What the others hear stays.
 fn tell_stage(
     stage: &mut Stage,
     alloc: Global,
     heard: &mut Heard,
     events: u64,
 ) -> Result<(), Memory>
-    ensures owns { OnOk result ((shape : Shape) (event : Event) (steps : List Step) (record' : Record) → heard.old ≡ heard_of event → AllNetwork steps → events_in record' ≡ events → OwnsStage shape record' stage.old → OwnsStage shape (Given event ∷ (map Took steps ++ record')) stage.new) }
+    ensures told { OnOk result (IsToldStage heard.old events stage.old stage.new) }
+    ensures others { (other : ℕ) → (number_of stage.old ≡ other → ⊥) → heard_by other heard.new ≡ heard_by other heard.old }
     ensures fits { (shape : Shape) (begun : ℕ) → FitsStage shape begun stage.old → FitsStage shape begun stage.new }
-    ensures idle { is_idle stage.new ≡ is_idle stage.old }
+    ensures number { number_of stage.new ≡ number_of stage.old }
 {
     match stage {
         Stage::UnderWay(live) => {
-            live.hear(alloc, heard, events)?;
+            let mut mine = take_for(heard, live.operation);
+            live.hear(alloc, &mut mine, events)?;
             Ok(())
         }
-        Stage::Idle => Ok(()),
         Stage::Over { .. } => Ok(()),
     }
 }

@@ -7,6 +7,7 @@ pub mod Rules
 pub mod Pieces
 pub mod World
 pub mod Notes
+pub mod Offers
 pub mod Local
 pub mod Outcomes
 pub mod Router
@@ -14,5 +15,7 @@ pub mod Ordered
 pub mod Safe
 pub mod Told
 pub mod Fabric
+pub mod Advancing
+pub mod AdvancingLaws
 pub mod Schedule
 pub mod Seeds

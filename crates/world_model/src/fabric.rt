@@ -1,9 +1,12 @@
 //! The network as the router and the session see it.
 
-ghost use Rattle.std.specs.Prelude.{◌≡◌, ℕ, ◌≤◌, Bool, true, List, [], Option, Some, None, IsSome, IfOk, OnOk, OnErr, IsErrOf};
+ghost use Rattle.std.specs.Prelude.{◌≡◌, ℕ, ◌≤◌, Bool, true, false, ◌&&◌, List, [], Option, Some, None, IsSome, IfOk, OnOk, OnErr, IsErrOf};
+ghost use Rattle.std.specs.Result.{is_ok};
 ghost use Rattle.outside.specs.Causes.{Rose};
 ghost use Rattle.world_model.specs.declared.shape.Shape.{Shape};
 ghost use Rattle.world_model.specs.declared.step.Called.{Called};
+ghost use Rattle.world_model.specs.Advancing.{Advances, is_whole};
+ghost use Rattle.world_model.specs.AdvancingLaws.{and_then, anyhow, nowhere};
 ghost use Rattle.world_model.specs.Fabric.{Awaits, Gave, HasNode, IsOpening, IsToldRun, KeepsRun, NoStepWhereOneWaited, TakesOrder, Tells, TellsOrder, TellsSend};
 ghost use Rattle.world_model.specs.Shape.{IsShape};
 ghost use Rattle.world_model.specs.World.{Cells};
@@ -57,11 +60,8 @@ pub trait Fabric {
     /// `open` they are what an opening would find.
     ghost runs: { Self → Shape → List ℕ → Cells → Type 0 };
 
-    /// What a network of this kind may become by its calls.
-    ghost goes: { Self → Self → Type 0 };
-
-    /// What it may become where some of the calls fail or find no memory.
-    ghost falls: { Self → Self → Type 0 };
+    /// What a network of this kind may become by its calls. They were `whole` where none found no memory and no opening failed.
+    ghost advances: { Self → Self → (whole : Bool) → Type 0 };
 
     /// Opens it for a cluster whose disks lie in a folder.
     fn open(&mut self, shape: &Shape, folder: &str) -> Result<(), StartFault>
@@ -73,43 +73,30 @@ pub trait Fabric {
         ensures told { OnOk result (Tells (told self.old) (told self.new) IsOpening) }
         ensures err { OnErr result (told self.new ≡ told self.old) }
         ensures run { OnOk result (KeepsRun (runs self.old shape.now folder.now) (runs self.new shape.now folder.now)) }
-        ensures goes { OnOk result (goes self.old self.new) }
-        ensures falls { falls self.old self.new };
+        ensures net { advances self.old self.new (is_ok result) };
 
     /// Sends a request to a node. `Failed` is a refusal, which is told; after `Memory` nothing was sent.
     fn send(&mut self, node: u32, frame: &[u8]) -> Result<(), SendFault>
         requires node { HasNode (opened self.old) node }
-        ensures later { faults self.old ≤ faults self.new }
+        ensures net { Advances faults opened runs advances self.old self.new (is_whole result) }
         ensures cause { IsErrOf result SendFault.Failed → Rose (faults self.old) (faults self.new) }
-        ensures opened { opened self.new ≡ opened self.old }
-        ensures told { TellsSend result (told self.old) (told self.new) node frame.now }
-        ensures run { (cluster : Shape) (place : List ℕ) → KeepsRun (runs self.old cluster place) (runs self.new cluster place) }
-        ensures goes { (IsErrOf result SendFault.Memory → ⊥) → goes self.old self.new }
-        ensures falls { falls self.old self.new };
+        ensures told { TellsSend result (told self.old) (told self.new) node frame.now };
 
     /// Gives the oldest event that was made and not given yet, or moves on and gives what comes of it. After `Memory` nothing
     /// was done.
     fn next(&mut self) -> Result<Event, Memory>
         requires open { IsSome (opened self.old) }
-        ensures later { faults self.old ≤ faults self.new }
-        ensures opened { opened self.new ≡ opened self.old }
+        ensures net { Advances faults opened runs advances self.old self.new (is_ok result) }
         ensures told { IfOk result (λ event. Tells (told self.old) (told self.new) (Gave event)) }
         ensures waited { OnOk result (NoStepWhereOneWaited (told self.old) (told self.new)) }
-        ensures err { OnErr result (told self.new ≡ told self.old) }
-        ensures run { (cluster : Shape) (place : List ℕ) → KeepsRun (runs self.old cluster place) (runs self.new cluster place) }
-        ensures goes { OnOk result (goes self.old self.new) }
-        ensures falls { falls self.old self.new };
+        ensures err { OnErr result (told self.new ≡ told self.old) };
 
     /// Carries an order out, and waits for what comes of it. The events that it makes are given by `next`. A refusal tells nothing.
     fn admin(&mut self, order: &Order) -> Result<Told, SendFault>
         requires order { TakesOrder (opened self.old) order.now }
-        ensures later { faults self.old ≤ faults self.new }
+        ensures net { Advances faults opened runs advances self.old self.new (is_whole result) }
         ensures cause { IsErrOf result SendFault.Failed → Rose (faults self.old) (faults self.new) }
-        ensures opened { opened self.new ≡ opened self.old }
-        ensures told { TellsOrder result (told self.old) (told self.new) order.now }
-        ensures run { (cluster : Shape) (place : List ℕ) → KeepsRun (runs self.old cluster place) (runs self.new cluster place) }
-        ensures goes { (IsErrOf result SendFault.Memory → ⊥) → goes self.old self.new }
-        ensures falls { falls self.old self.new };
+        ensures told { TellsOrder result (told self.old) (told self.new) order.now };
 
     /// How many events `next` gives before it moves on.
     fn queued(&self) -> u32
@@ -122,7 +109,7 @@ pub trait Fabric {
         ensures opened { opened self.new ≡ None }
         ensures told { told self.new ≡ told self.old }
         ensures run { (cluster : Shape) (place : List ℕ) → KeepsRun (runs self.old cluster place) (runs self.new cluster place) }
-        ensures goes { goes self.old self.new };
+        ensures net { advances self.old self.new true };
 
     /// A network that was never opened has done nothing.
     ghost fresh_did_nothing: { (a : Self) (calls : List Called) → fresh a ≡ true → told a ≡ Some calls → calls ≡ [] };
@@ -130,13 +117,20 @@ pub trait Fabric {
     /// A run that is known is one of the model.
     ghost runs_by_rules: { (a : Self) (cluster : Shape) (place : List ℕ) (opening : Cells) → knows a → runs a cluster place opening → IsToldRun opening (told a) };
 
-    ghost goes_nowhere: { (a : Self) → goes a a };
+    ghost advances_nowhere: { (a : Self) → advances a a true };
 
-    ghost goes_on: { (a b c : Self) → goes a b → goes b c → goes a c };
+    ghost advances_on: { (a b c : Self) (x y : Bool) → advances a b x → advances b c y → advances a c (x && y) };
 
-    ghost falls_as_it_goes: { (a b : Self) → goes a b → falls a b };
+    /// What it became by any calls, it became by calls that may not have been whole.
+    ghost advances_anyhow: { (a b : Self) (x : Bool) → advances a b x → advances a b false };
 
-    ghost falls_on: { (a b c : Self) → falls a b → falls b c → falls a c };
+    // What these laws come to between the opening and the closing. An implementation leaves the proofs as they are.
+
+    ghost net_nowhere: { (a : Self) (whole : Bool) → Advances faults opened runs advances a a whole } = { λ a whole. nowhere faults opened runs advances a whole (advances_nowhere a) (advances_anyhow a a true) };
+
+    ghost net_and_then: { (a b c : Self) (whole : Bool) → Advances faults opened runs advances a b true → Advances faults opened runs advances b c whole → Advances faults opened runs advances a c whole } = { λ a b c whole. and_then faults opened runs advances a b c whole (advances_on a b c true whole) };
+
+    ghost net_anyhow: { (a b : Self) (whole : Bool) → Advances faults opened runs advances a b true → Advances faults opened runs advances a b whole } = { λ a b whole. anyhow faults opened runs advances a b whole (advances_anyhow a b true) };
 }
 
 /// A network that is lent.
@@ -153,9 +147,7 @@ impl<F: Fabric> Fabric for &mut F {
 
     ghost runs = { λ f cluster place opening. F.runs f.now cluster place opening };
 
-    ghost goes = { λ f g. F.goes f.now g.now };
-
-    ghost falls = { λ f g. F.falls f.now g.now };
+    ghost advances = { λ f g whole. F.advances f.now g.now whole };
 
     fn open(&mut self, shape: &Shape, folder: &str) -> Result<(), StartFault> {
         (**self).open(shape, folder)
@@ -185,11 +177,9 @@ impl<F: Fabric> Fabric for &mut F {
 
     ghost runs_by_rules = { λ a cluster place opening k r. F.runs_by_rules a.now cluster place opening k r };
 
-    ghost goes_nowhere = { λ a. F.goes_nowhere a.now };
+    ghost advances_nowhere = { λ a. F.advances_nowhere a.now };
 
-    ghost goes_on = { λ a b c p q. F.goes_on a.now b.now c.now p q };
+    ghost advances_on = { λ a b c x y p q. F.advances_on a.now b.now c.now x y p q };
 
-    ghost falls_as_it_goes = { λ a b p. F.falls_as_it_goes a.now b.now p };
-
-    ghost falls_on = { λ a b c p q. F.falls_on a.now b.now c.now p q };
+    ghost advances_anyhow = { λ a b x p. F.advances_anyhow a.now b.now x p };
 }

@@ -1,7 +1,7 @@
-use Rattle.std.proofs.Common.{◌∙◌, ap, refl, Err, inl, inr}
-use Rattle.mem_fabric.specs.GoingLaws.{bays_on, packing_on}
+use Rattle.std.proofs.Common.{true, false, ap, refl, Err, inl, inr}
+use Rattle.mem_fabric.specs.AdvancingLaws.{over_on}
 use Rattle.mem_fabric.specs.Past.{calls_of}
-use Rattle.mem_fabric.specs.PlayedLaws.{falls_as_plays, falls_on, plays_on}
+use Rattle.mem_fabric.specs.PlayedLaws.{plays_on}
 use Rattle.mem_fabric.specs.Sound.{network_of}
 use Rattle.front_end.specs.Disks.{disks_of}
 use Rattle.front_end.proofs.ClusterLemmas.{opened_tie, ran_finished, ran_stopped, ran_cut, ran_starved, turned_away}
@@ -16,6 +16,7 @@ pub returns-clause-run : goal.returns-clause-run
 returns-clause-run g c =
     let D = g.A.Disk.Disk in
     let B = g.A.Bays in
+    let M = g.N.Moves in
     let old = c.args.fabric.now in
     let opened = c.open.new.self in
     let left = c.run_script.new.fabric in
@@ -27,73 +28,60 @@ returns-clause-run g c =
     elim c.match-run_script.branch [
       | in-Ok-run_script w ↦
           let on = w.in-Ok-run_script.ensures.finished in
-          let packing = packing_on D.tells D.content B.home (calls_of opened.cluster.past) opened.nodes (calls_of left.cluster.past) left.nodes (calls_of end.cluster.past) end.nodes on.went.4 c.close.ensures.goes.4 in
-          let p = c.what_is_told_was_played.ensures old opened end shape (calls_of left.cluster.past) c.requires.fresh c.in-Ok.ensures.goes c.in-Ok.ensures.opened (
-            plays_on _ _ _ _ _ _ on.went.0 c.close.ensures.goes.0,
-            g.met.N.Moves.same_on _ _ _ on.went.1 c.close.ensures.goes.1,
-            c.close.ensures.goes.2 ∙ on.went.2,
-            bays_on B.tells B.out B.same opened.nodes left.nodes end.nodes (g.met.A.Bays.same_on _ _ _) on.went.3 c.close.ensures.goes.3,
-            packing,
-          ) c.close.ensures.told in
+          let went = w.in-Ok-run_script.ensures.net in
+          let whole = over_on B.tells D.tells D.content B.home B.out B.same M.given M.seeds M.same opened.moves opened.cluster opened.nodes left.moves left.cluster left.nodes end.moves end.cluster end.nodes true true (g.met.N.Moves.same_on _ _ _) (g.met.A.Bays.same_on _ _ _) went.own c.close.ensures.net in
+          let p = c.what_is_told_was_played.ensures old opened end shape (calls_of left.cluster.past) c.requires.fresh c.in-Ok.ensures.net c.in-Ok.ensures.opened whole c.close.ensures.told in
           ran_finished shape disks on.router _ _ (calls_of left.cluster.past) _ _ _ c.runs_are_safe.ensures on.shaped (p.0, p.1, p.2)
-          (runs_on B.tells D.tells D.content D.size D.faults B.home shape folder old.nodes.bays left.nodes (calls_of left.cluster.past) (λ opening held. on.run shape folder opening (c.in-Ok.ensures.run opening (c.requires.holds opening held))))
+          (runs_on B.tells D.tells D.content D.size D.faults B.home shape folder old.nodes.bays left.nodes (calls_of left.cluster.past) (λ opening held. went.run shape folder opening (c.in-Ok.ensures.run opening (c.requires.holds opening held))))
           (leaves_of B.tells D.tells D.content D.size D.faults B.home shape folder old.nodes.bays end.nodes (calls_of left.cluster.past) (calls_of end.cluster.past) c.close.ensures.told
-          (λ opening held. c.close.ensures.run shape folder opening (on.run shape folder opening (c.in-Ok.ensures.run opening (c.requires.holds opening held)))) c.close.ensures.home c.close.ensures.torn (packs packing))
+          (λ opening held. c.close.ensures.run shape folder opening (went.run shape folder opening (c.in-Ok.ensures.run opening (c.requires.holds opening held)))) c.close.ensures.home c.close.ensures.torn (packs whole.packing))
           w.status-is on.so
       | in-Err-Source w ↦
           let on = w.in-Err-Source.ensures.stopped (ap Err w.in-Err-Source.field-0-is) in
-          let packing = packing_on D.tells D.content B.home (calls_of opened.cluster.past) opened.nodes (calls_of left.cluster.past) left.nodes (calls_of end.cluster.past) end.nodes on.went.4 c.close.ensures.goes.4 in
-          let p = c.what_is_told_was_played.ensures old opened end shape (calls_of left.cluster.past) c.requires.fresh c.in-Ok.ensures.goes c.in-Ok.ensures.opened (
-            plays_on _ _ _ _ _ _ on.went.0 c.close.ensures.goes.0,
-            g.met.N.Moves.same_on _ _ _ on.went.1 c.close.ensures.goes.1,
-            c.close.ensures.goes.2 ∙ on.went.2,
-            bays_on B.tells B.out B.same opened.nodes left.nodes end.nodes (g.met.A.Bays.same_on _ _ _) on.went.3 c.close.ensures.goes.3,
-            packing,
-          ) c.close.ensures.told in
+          let went = rw w.in-Err-Source.field-0-is at w.in-Err-Source.ensures.net in
+          let whole = over_on B.tells D.tells D.content B.home B.out B.same M.given M.seeds M.same opened.moves opened.cluster opened.nodes left.moves left.cluster left.nodes end.moves end.cluster end.nodes true true (g.met.N.Moves.same_on _ _ _) (g.met.A.Bays.same_on _ _ _) went.own c.close.ensures.net in
+          let p = c.what_is_told_was_played.ensures old opened end shape (calls_of left.cluster.past) c.requires.fresh c.in-Ok.ensures.net c.in-Ok.ensures.opened whole c.close.ensures.told in
           ran_stopped shape disks on.router _ _ (calls_of left.cluster.past) _ _ c.runs_are_safe.ensures on.shaped (p.0, p.1, p.2)
-          (runs_on B.tells D.tells D.content D.size D.faults B.home shape folder old.nodes.bays left.nodes (calls_of left.cluster.past) (λ opening held. on.run shape folder opening (c.in-Ok.ensures.run opening (c.requires.holds opening held))))
+          (runs_on B.tells D.tells D.content D.size D.faults B.home shape folder old.nodes.bays left.nodes (calls_of left.cluster.past) (λ opening held. went.run shape folder opening (c.in-Ok.ensures.run opening (c.requires.holds opening held))))
           (leaves_of B.tells D.tells D.content D.size D.faults B.home shape folder old.nodes.bays end.nodes (calls_of left.cluster.past) (calls_of end.cluster.past) c.close.ensures.told
-          (λ opening held. c.close.ensures.run shape folder opening (on.run shape folder opening (c.in-Ok.ensures.run opening (c.requires.holds opening held)))) c.close.ensures.home c.close.ensures.torn (packs packing))
+          (λ opening held. c.close.ensures.run shape folder opening (went.run shape folder opening (c.in-Ok.ensures.run opening (c.requires.holds opening held)))) c.close.ensures.home c.close.ensures.torn (packs whole.packing))
           w.status-is on.so
       | in-Err-Sink w ↦
           let on = w.in-Err-Sink.ensures.cut (ap Err w.in-Err-Sink.field-0-is) in
-          let packing = packing_on D.tells D.content B.home (calls_of opened.cluster.past) opened.nodes (calls_of left.cluster.past) left.nodes (calls_of end.cluster.past) end.nodes on.went.4 c.close.ensures.goes.4 in
-          let p = c.what_is_told_was_played.ensures old opened end shape (calls_of left.cluster.past) c.requires.fresh c.in-Ok.ensures.goes c.in-Ok.ensures.opened (
-            plays_on _ _ _ _ _ _ on.went.0 c.close.ensures.goes.0,
-            g.met.N.Moves.same_on _ _ _ on.went.1 c.close.ensures.goes.1,
-            c.close.ensures.goes.2 ∙ on.went.2,
-            bays_on B.tells B.out B.same opened.nodes left.nodes end.nodes (g.met.A.Bays.same_on _ _ _) on.went.3 c.close.ensures.goes.3,
-            packing,
-          ) c.close.ensures.told in
+          let went = rw w.in-Err-Sink.field-0-is at w.in-Err-Sink.ensures.net in
+          let whole = over_on B.tells D.tells D.content B.home B.out B.same M.given M.seeds M.same opened.moves opened.cluster opened.nodes left.moves left.cluster left.nodes end.moves end.cluster end.nodes true true (g.met.N.Moves.same_on _ _ _) (g.met.A.Bays.same_on _ _ _) went.own c.close.ensures.net in
+          let p = c.what_is_told_was_played.ensures old opened end shape (calls_of left.cluster.past) c.requires.fresh c.in-Ok.ensures.net c.in-Ok.ensures.opened whole c.close.ensures.told in
           ran_cut shape disks on.router _ _ (calls_of left.cluster.past) _ _ c.runs_are_safe.ensures on.shaped (p.0, p.1, p.2)
-          (runs_on B.tells D.tells D.content D.size D.faults B.home shape folder old.nodes.bays left.nodes (calls_of left.cluster.past) (λ opening held. on.run shape folder opening (c.in-Ok.ensures.run opening (c.requires.holds opening held))))
+          (runs_on B.tells D.tells D.content D.size D.faults B.home shape folder old.nodes.bays left.nodes (calls_of left.cluster.past) (λ opening held. went.run shape folder opening (c.in-Ok.ensures.run opening (c.requires.holds opening held))))
           (leaves_of B.tells D.tells D.content D.size D.faults B.home shape folder old.nodes.bays end.nodes (calls_of left.cluster.past) (calls_of end.cluster.past) c.close.ensures.told
-          (λ opening held. c.close.ensures.run shape folder opening (on.run shape folder opening (c.in-Ok.ensures.run opening (c.requires.holds opening held)))) c.close.ensures.home c.close.ensures.torn (packs packing))
+          (λ opening held. c.close.ensures.run shape folder opening (went.run shape folder opening (c.in-Ok.ensures.run opening (c.requires.holds opening held)))) c.close.ensures.home c.close.ensures.torn (packs whole.packing))
           w.status-is on.so
       | in-Err-Memory-run_script w ↦
           let starved = w.in-Err-Memory-run_script.ensures.refused (ap Err w.in-Err-Memory-run_script.field-0-is) in
           let between = starved.1.between in
           let on = starved.1.was in
-          let fell = packing_on D.tells D.content B.home (calls_of opened.cluster.past) opened.nodes (calls_of between.cluster.past) between.nodes (calls_of left.cluster.past) left.nodes on.went.4 starved.1.fell.4 in
-          let packing = packing_on D.tells D.content B.home (calls_of opened.cluster.past) opened.nodes (calls_of left.cluster.past) left.nodes (calls_of end.cluster.past) end.nodes fell c.close.ensures.goes.4 in
-          let p = c.what_is_told_was_played.ensures old opened between shape (calls_of between.cluster.past) c.requires.fresh c.in-Ok.ensures.goes c.in-Ok.ensures.opened on.went refl in
+          let went = starved.1.went in
+          let fell = starved.1.fell in
+          let all = over_on B.tells D.tells D.content B.home B.out B.same M.given M.seeds M.same opened.moves opened.cluster opened.nodes left.moves left.cluster left.nodes end.moves end.cluster end.nodes false true (g.met.N.Moves.same_on _ _ _) (g.met.A.Bays.same_on _ _ _)
+              (over_on B.tells D.tells D.content B.home B.out B.same M.given M.seeds M.same opened.moves opened.cluster opened.nodes between.moves between.cluster between.nodes left.moves left.cluster left.nodes true false (g.met.N.Moves.same_on _ _ _) (g.met.A.Bays.same_on _ _ _) went.own fell.own) c.close.ensures.net in
+          let p = c.what_is_told_was_played.ensures old opened between shape (calls_of between.cluster.past) c.requires.fresh c.in-Ok.ensures.net c.in-Ok.ensures.opened went.own refl in
           ran_starved shape disks on.router _ _ _ (network_of old.cluster) (network_of between.cluster) (network_of end.cluster) starved.0 _ _ c.runs_are_safe.ensures on.shaped (p.0, p.1, p.2)
-          (runs_on B.tells D.tells D.content D.size D.faults B.home shape folder old.nodes.bays between.nodes (calls_of between.cluster.past) (λ opening held. on.run shape folder opening (c.in-Ok.ensures.run opening (c.requires.holds opening held))))
+          (runs_on B.tells D.tells D.content D.size D.faults B.home shape folder old.nodes.bays between.nodes (calls_of between.cluster.past) (λ opening held. went.run shape folder opening (c.in-Ok.ensures.run opening (c.requires.holds opening held))))
           (ap network_of (old.empty c.requires.fresh))
-          (falls_as_plays _ _ _ _ (plays_on _ _ _ _ _ _ c.in-Ok.ensures.goes.0 on.went.0))
-          (falls_on _ _ _ _ _ _ starved.1.fell.0 (falls_as_plays _ _ _ _ c.close.ensures.goes.0))
+          (plays_on _ _ _ _ _ _ true true c.in-Ok.ensures.net.played went.own.played)
+          (plays_on _ _ _ _ _ _ false true fell.own.played c.close.ensures.net.played)
           (leaves_of B.tells D.tells D.content D.size D.faults B.home shape folder old.nodes.bays end.nodes (calls_of end.cluster.past) (calls_of end.cluster.past) refl
-          (λ opening held. c.close.ensures.run shape folder opening (starved.1.run shape folder opening (on.run shape folder opening (c.in-Ok.ensures.run opening (c.requires.holds opening held))))) c.close.ensures.home c.close.ensures.torn (packs packing))
+          (λ opening held. c.close.ensures.run shape folder opening (fell.run shape folder opening (went.run shape folder opening (c.in-Ok.ensures.run opening (c.requires.holds opening held))))) c.close.ensures.home c.close.ensures.torn (packs all.packing))
           w.status-is on.so
     ]
 
 pub returns-clause-home : goal.returns-clause-home
 returns-clause-home g c = λ t.
     all_home g.A.Bays.out c.args.fabric.now.nodes c.close.new.self.nodes c.requires.nodes c.close.ensures.home
-    (λ before own. c.close.ensures.goes.3.own t before (c.run_script.ensures.falls.3.own t before (c.open.ensures.falls.3.own t before own)))
+    (λ before own. c.close.ensures.net.bays.own t before (c.run_script.ensures.net.own.bays.own t before (c.open.ensures.net.bays.own t before own)))
 
 pub returns-clause-same_bays : goal.returns-clause-same_bays
-returns-clause-same_bays g c = g.met.A.Bays.same_on _ _ _ (g.met.A.Bays.same_on _ _ _ c.open.ensures.falls.3.same_bays c.run_script.ensures.falls.3.same_bays) c.close.ensures.goes.3.same_bays
+returns-clause-same_bays g c = g.met.A.Bays.same_on _ _ _ (g.met.A.Bays.same_on _ _ _ c.open.ensures.net.bays.same_bays c.run_script.ensures.net.own.bays.same_bays) c.close.ensures.net.bays.same_bays
 
 pub returns-in-Err-Failed-clause-run : goal.returns-in-Err-Failed-clause-run
 returns-in-Err-Failed-clause-run g c =
@@ -101,7 +89,7 @@ returns-in-Err-Failed-clause-run g c =
 
 pub returns-in-Err-Failed-clause-home : goal.returns-in-Err-Failed-clause-home
 returns-in-Err-Failed-clause-home g c = λ t.
-    all_home g.A.Bays.out c.args.fabric.now.nodes c.open.new.self.nodes c.requires.nodes c.in-Err-Failed.ensures.shut (λ before own. c.open.ensures.falls.3.own t before own)
+    all_home g.A.Bays.out c.args.fabric.now.nodes c.open.new.self.nodes c.requires.nodes c.in-Err-Failed.ensures.shut (λ before own. c.open.ensures.net.bays.own t before own)
 
 pub returns-in-Err-Memory-clause-run : goal.returns-in-Err-Memory-clause-run
 returns-in-Err-Memory-clause-run g c =
@@ -109,7 +97,7 @@ returns-in-Err-Memory-clause-run g c =
 
 pub returns-in-Err-Memory-clause-home : goal.returns-in-Err-Memory-clause-home
 returns-in-Err-Memory-clause-home g c = λ t.
-    all_home g.A.Bays.out c.args.fabric.now.nodes c.open.new.self.nodes c.requires.nodes c.in-Err-Memory.ensures.shut (λ before own. c.open.ensures.falls.3.own t before own)
+    all_home g.A.Bays.out c.args.fabric.now.nodes c.open.new.self.nodes c.requires.nodes c.in-Err-Memory.ensures.shut (λ before own. c.open.ensures.net.bays.own t before own)
 
 pub returns-in-Err-Refused-clause-run : goal.returns-in-Err-Refused-clause-run
 returns-in-Err-Refused-clause-run g c =
@@ -118,4 +106,4 @@ returns-in-Err-Refused-clause-run g c =
 
 pub returns-in-Err-Refused-clause-home : goal.returns-in-Err-Refused-clause-home
 returns-in-Err-Refused-clause-home g c = λ t.
-    all_home g.A.Bays.out c.args.fabric.now.nodes c.open.new.self.nodes c.requires.nodes c.in-Err-Refused.ensures.shut (λ before own. c.open.ensures.falls.3.own t before own)
+    all_home g.A.Bays.out c.args.fabric.now.nodes c.open.new.self.nodes c.requires.nodes c.in-Err-Refused.ensures.shut (λ before own. c.open.ensures.net.bays.own t before own)

@@ -3,7 +3,7 @@ use Rattle.front_end.specs.declared.lines.Stop.TheVariants as stop
 use Rattle.front_end.specs.Running.{IsAll, IsSome}
 use Rattle.front_end.specs.Session.{ties_of}
 use Rattle.front_end.proofs.RunLemmas.{known_error, stopped_between, cut_in_line, runs_on, ran_end, ran_last, ran_limit, read_now, read_line, read_all}
-use Rattle.front_end.proofs.RunOnLemmas.{runs_over, still_runs}
+use Rattle.front_end.proofs.RunOnLemmas.{runs_over}
 use Rattle.front_end.proofs.WriteLemmas.{appends_nothing}
 use Rattle.front_end.proofs.run.run_lines.Goals as goal
 
@@ -13,7 +13,7 @@ returns-in_err-line-clause-stopped g c = λ q.
     let P = c.args.session.now.router.shape in
     let gone = c.next_line.ensures.gone in
     let tie = ties_of c.lines.session.router (g.F.Fabric.told c.lines.fabric) in
-    record { router = c.lines.session.router; shaped = i.shape; went = i.goes; run = i.run; so = stopped_between P _ _ _ _ _ _ _ gone.0 _ c.lines.session tie _ _ _ refl refl refl refl refl i.running gone.1 gone.2 (appends_nothing _) }
+    record { router = c.lines.session.router; shaped = i.shape; so = stopped_between P _ _ _ _ _ _ _ gone.0 _ c.lines.session tie _ _ _ refl refl refl refl refl i.running gone.1 gone.2 (appends_nothing _) }
 
 pub returns-in_err-line-clause-refused : goal.returns-in_err-line-clause-refused
 returns-in_err-line-clause-refused g c = λ q.
@@ -21,7 +21,7 @@ returns-in_err-line-clause-refused g c = λ q.
     let P = c.args.session.now.router.shape in
     let gone = c.next_line.ensures.gone in
     let tie = ties_of c.lines.session.router (g.F.Fabric.told c.lines.fabric) in
-    (g.U.Random.ahead c.lines.random, record { between = c.lines.fabric; was = record { router = c.lines.session.router; shaped = i.shape; went = i.goes; run = i.run; so = stopped_between P _ _ _ _ _ _ _ gone.0 _ c.lines.session tie _ _ _ refl refl refl refl refl i.running gone.1 gone.2 (appends_nothing _) }; fell = g.met.F.Fabric.falls_as_it_goes _ _ (g.met.F.Fabric.goes_nowhere _); run = λ cluster place opening ran. ran })
+    (g.U.Random.ahead c.lines.random, record { between = c.lines.fabric; went = i.net; was = record { router = c.lines.session.router; shaped = i.shape; so = stopped_between P _ _ _ _ _ _ _ gone.0 _ c.lines.session tie _ _ _ refl refl refl refl refl i.running gone.1 gone.2 (appends_nothing _) }; fell = g.met.F.Fabric.net_nowhere c.lines.fabric _ })
 
 pub returns-in_err-more-in-Line-clause-cut : goal.returns-in_err-more-in-Line-clause-cut
 returns-in_err-more-in-Line-clause-cut g c = λ q.
@@ -40,8 +40,6 @@ returns-in_err-more-in-Line-clause-cut g c = λ q.
     record {
       router = c.run_line.new.session.router;
       shaped = c.in_err-more-in-Line.ensures.shape ∙ i.shape;
-      went = g.met.F.Fabric.goes_on _ _ _ i.goes (c.in_err-more-in-Line.ensures.cut_goes (ap Err e));
-      run = still_runs (record { told = g.F.Fabric.told; runs = g.F.Fabric.runs; goes = g.F.Fabric.goes; falls = g.F.Fabric.falls }) c.args.fabric.now c.lines.fabric c.run_line.new.fabric i.run c.in_err-more-in-Line.ensures.run;
       so = cut_in_line P _ _ _ _ _ r.lines c.as_slice.result.now r.state c.run_line.new.session tie' _ _ _ refl refl refl refl refl refl r.unended r.wrote read ran;
     }
 
@@ -52,7 +50,7 @@ returns-in_err-more-in-Line-clause-refused g c = λ q.
     let gone = c.next_line.ensures.gone in
     let tie = ties_of c.lines.session.router (g.F.Fabric.told c.lines.fabric) in
     let e = sym (known_error _ stop.Memory c.in_err-more-in-Line.field-0.0 c.from_residual-in_err-more-in-Line.ensures q) in
-    (g.U.Random.ahead c.lines.random, record { between = c.lines.fabric; was = record { router = c.lines.session.router; shaped = i.shape; went = i.goes; run = i.run; so = stopped_between P _ _ _ _ _ _ _ gone.0 _ c.lines.session tie _ _ _ refl refl refl refl refl i.running gone.1 gone.2 (c.in_err-more-in-Line.ensures.memory (ap Err e)) }; fell = c.in_err-more-in-Line.ensures.falls; run = c.in_err-more-in-Line.ensures.run })
+    (g.U.Random.ahead c.lines.random, record { between = c.lines.fabric; went = i.net; was = record { router = c.lines.session.router; shaped = i.shape; so = stopped_between P _ _ _ _ _ _ _ gone.0 _ c.lines.session tie _ _ _ refl refl refl refl refl i.running gone.1 gone.2 (c.in_err-more-in-Line.ensures.memory (ap Err e)) }; fell = rw e at c.in_err-more-in-Line.ensures.net })
 
 pub returns-in_err-run_line-in-Last-clause-cut : goal.returns-in_err-run_line-in-Last-clause-cut
 returns-in_err-run_line-in-Last-clause-cut g c = λ q.
@@ -71,8 +69,6 @@ returns-in_err-run_line-in-Last-clause-cut g c = λ q.
     record {
       router = c.run_line-in-Last.new.session.router;
       shaped = c.in_err-run_line-in-Last.ensures.shape ∙ i.shape;
-      went = g.met.F.Fabric.goes_on _ _ _ i.goes (c.in_err-run_line-in-Last.ensures.cut_goes (ap Err e));
-      run = still_runs (record { told = g.F.Fabric.told; runs = g.F.Fabric.runs; goes = g.F.Fabric.goes; falls = g.F.Fabric.falls }) c.args.fabric.now c.lines.fabric c.run_line-in-Last.new.fabric i.run c.in_err-run_line-in-Last.ensures.run;
       so = cut_in_line P _ _ _ _ _ r.lines c.as_slice-in-Last.result.now r.state c.run_line-in-Last.new.session tie' _ _ _ refl refl refl refl refl refl r.unended r.wrote read ran;
     }
 
@@ -83,10 +79,7 @@ returns-in_err-run_line-in-Last-clause-refused g c = λ q.
     let gone = c.next_line.ensures.gone in
     let tie = ties_of c.lines.session.router (g.F.Fabric.told c.lines.fabric) in
     let e = sym (known_error _ stop.Memory c.in_err-run_line-in-Last.field-0.0 c.from_residual-in_err-run_line-in-Last.ensures q) in
-    (g.U.Random.ahead c.lines.random, record { between = c.lines.fabric; was = record { router = c.lines.session.router; shaped = i.shape; went = i.goes; run = i.run; so = stopped_between P _ _ _ _ _ _ _ gone.0 _ c.lines.session tie _ _ _ refl refl refl refl refl i.running gone.1 gone.2 (c.in_err-run_line-in-Last.ensures.memory (ap Err e)) }; fell = c.in_err-run_line-in-Last.ensures.falls; run = c.in_err-run_line-in-Last.ensures.run })
-
-pub returns-in_err-more-in-Line-clause-falls : goal.returns-in_err-more-in-Line-clause-falls
-returns-in_err-more-in-Line-clause-falls g c = g.met.F.Fabric.falls_on _ _ _ (g.met.F.Fabric.falls_as_it_goes _ _ c.lines.invariant.goes) c.in_err-more-in-Line.ensures.falls
+    (g.U.Random.ahead c.lines.random, record { between = c.lines.fabric; went = i.net; was = record { router = c.lines.session.router; shaped = i.shape; so = stopped_between P _ _ _ _ _ _ _ gone.0 _ c.lines.session tie _ _ _ refl refl refl refl refl i.running gone.1 gone.2 (c.in_err-run_line-in-Last.ensures.memory (ap Err e)) }; fell = rw e at c.in_err-run_line-in-Last.ensures.net })
 
 pub returns-then-not-more-clause-ran : goal.returns-then-not-more-clause-ran
 returns-then-not-more-clause-ran g c =
@@ -101,12 +94,6 @@ returns-then-not-more-clause-ran g c =
     let ends = rw c.if-not-more.true at c.in_ok-more-in-Line.ensures.goes_on in
     ran_end P _ _ _ _ _ _ _ c.next_line.new.self.waiting _ _ c.as_slice.result.now c.lines.session c.run_line.new.session tie tie' _ _ _ r
     (next.0, next.1, c.as_slice.ensures ∙ next.2, next.3) c.in_ok-line.ensures.read small runs ends
-
-pub returns-then-not-more-clause-goes : goal.returns-then-not-more-clause-goes
-returns-then-not-more-clause-goes g c = g.met.F.Fabric.goes_on _ _ _ c.lines.invariant.goes c.in_ok-more-in-Line.ensures.goes
-
-pub returns-then-not-more-clause-falls : goal.returns-then-not-more-clause-falls
-returns-then-not-more-clause-falls g c = g.met.F.Fabric.falls_as_it_goes _ _ (g.met.F.Fabric.goes_on _ _ _ c.lines.invariant.goes c.in_ok-more-in-Line.ensures.goes)
 
 pub lines-preserved : goal.lines-preserved
 lines-preserved g c =
@@ -126,9 +113,7 @@ lines-preserved g c =
       running = runs_on P _ _ _ _ _ _ _ c.next_line.new.self.waiting _ _ c.as_slice.result.now c.lines.session c.run_line.new.session tie tie' _ _ _ i.running
           (next.0, next.1, c.as_slice.ensures ∙ next.2, next.3) l.read runs e.lines more;
       shape = e.shape ∙ i.shape;
-      opened = e.opened ∙ i.opened;
-      run = still_runs (record { told = g.F.Fabric.told; runs = g.F.Fabric.runs; goes = g.F.Fabric.goes; falls = g.F.Fabric.falls }) c.args.fabric.now c.lines.fabric c.run_line.new.fabric i.run e.run;
-      goes = g.met.F.Fabric.goes_on _ _ _ i.goes e.goes;
+      net = g.met.F.Fabric.net_and_then c.args.fabric.now c.lines.fabric c.run_line.new.fabric _ i.net e.net;
       turns = omega (arith, i.turns, used, e.lines);
       limit = small;
       tags = e.tags;

@@ -1,5 +1,5 @@
 use Rattle.std.proofs.Common.{◌∙◌, ◌++◌, ◌∷◌, [], ap, sym, length}
-use Rattle.router_core.specs.Stands.{is_idle}
+use Rattle.router_core.specs.Stands.{is_idle, live_in}
 use Rattle.front_end.specs.declared.history.Entry.{Entry}
 use Rattle.front_end.specs.Past.{answer_of}
 use Rattle.front_end.specs.Session.{answer_at, entries_of}
@@ -13,7 +13,7 @@ returns-clause-state c = λ state k.
     let plain = c.requires.plain in
     record {
       tags = e.tags ∙ k.tags;
-      busy = ap (λ r. is_idle r.stage) e.router ∙ k.busy;
+      busy = ap (λ r. is_idle (live_in r.stages)) e.router ∙ k.busy;
       some = k.some;
       lines = e.lines ∙ k.lines;
       bad = e.bad ∙ k.bad;

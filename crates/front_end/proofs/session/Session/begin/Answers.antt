@@ -1,5 +1,5 @@
 use Rattle.std.proofs.Common.{◌≡◌, ◌∙◌, ◌++◌, ◌∷◌, [], ◌+◌, List, ℕ, ap, sym, refl, None, Option, length, length-append, arith}
-use Rattle.router_core.specs.Stands.{is_idle}
+use Rattle.router_core.specs.Stands.{is_idle, live_in}
 use Rattle.front_end.specs.declared.history.Entry.{Entry}
 use Rattle.front_end.specs.declared.history.Entry.TheVariants.{Mark}
 use Rattle.world_model.specs.declared.history.HistoryMark.TheVariants.{Begin}
@@ -22,7 +22,7 @@ returns-clause-state c = λ state request k outline.
     let places = length-append self.answers.items (None ∷ []) in
     record {
       tags = e.tags ∙ c.in_ok-push.ensures.ok ∙ ap (λ (tags : List Tag). tags ++ t ∷ []) k.tags;
-      busy = ap (λ r. is_idle r.stage) e.router ∙ k.busy;
+      busy = ap (λ r. is_idle (live_in r.stages)) e.router ∙ k.busy;
       some = λ busy. omega (arith, size);
       lines = e.lines ∙ k.lines;
       bad = e.bad ∙ k.bad;

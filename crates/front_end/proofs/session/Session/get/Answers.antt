@@ -11,6 +11,8 @@ use Rattle.front_end.specs.Past.{meant_by}
 use Rattle.front_end.specs.Session.{Keeps, Adds, Starts, entries_of, finished_by, begun_by, ending_of, get_of, ties_of}
 use Rattle.front_end.proofs.CarryLemmas.{IsGoing, begin_whole, finish_tags}
 use Rattle.front_end.proofs.LineStepLemmas.{finishes_state, begun_told, starts_on}
+use Rattle.router_core.specs.Stands.{is_idle, live_in}
+use Rattle.front_end.proofs.AloneLemmas.{next_is_live}
 use Rattle.front_end.proofs.session.Session.get.Goals as goal
 
 pub returns-clause-carried : goal.returns-clause-carried
@@ -50,7 +52,7 @@ returns-clause-carried g c = λ line words asks lines state first k stands numbe
     let starts : Starts m r c.begin.new.self new (ties_of c.begin.new.self.router now) tie' words words c.begin.new.out.items c.begin.new.out.items = record {
       becomes = λ s k. record {
         tags = k.tags;
-        busy = e.busy;
+        busy = next_is_live (c.begin.new.self.router.begun + 1) (live_in c.begin.new.self.router.stages) (live_in c.get.new.self.stages) (ap (λ (x : RouterView). is_idle (live_in x.stages)) same ∙ c.in_ok-finish.ensures.idle) e.live;
         some = λ b. omega (arith, counted, ap length k.tags);
         lines = k.lines;
         bad = k.bad;

@@ -7,6 +7,8 @@ use Rattle.front_end.specs.declared.history.Entry.TheVariants.{Mark}
 use Rattle.front_end.specs.Transcript.{entry_line}
 use Rattle.front_end.specs.Session.{put_of, ties_of}
 use Rattle.front_end.proofs.KeepLemmas.{outline_more, answers_later}
+use Rattle.router_core.specs.Stands.{live_in}
+use Rattle.front_end.proofs.AloneLemmas.{next_is_live}
 use Rattle.front_end.proofs.session.Session.store.Goals as goal
 
 pub returns-clause-stored : goal.returns-clause-stored
@@ -24,7 +26,7 @@ returns-clause-stored g c =
       draws = (c.word-high.result, c.word-low.result, (_, c.word-high.ensures.given, c.word-low.ensures.given), c.draw-id.ensures ∙ ap (λ p. drawn_id Simple p c.word-high.result c.word-low.result) turn);
       drew = λ state k. record {
         tags = k.tags;
-        busy = c.in_ok-put.ensures.busy;
+        busy = next_is_live (self.router.begun + 1) (live_in self.router.stages) (live_in c.put.new.self.stages) c.requires.idle c.in_ok-put.ensures.live;
         some = λ b. omega (arith, counted, ap length k.tags);
         lines = k.lines;
         bad = k.bad;

@@ -1,8 +1,7 @@
-use Rattle.std.proofs.Common.{◌≡◌, ◌-◌, ◌^◌, ◌≤◌, ℕ, List}
+use Rattle.std.proofs.Common.{◌≡◌, ◌-◌, ◌^◌, List, true}
 use Rattle.world_model.specs.declared.history.HistoryMark.{HistoryMark}
-use Rattle.world_model.specs.declared.shape.Shape.{Shape}
-use Rattle.world_model.specs.Fabric.{KeepsRun}
-use Rattle.router_core.specs.Stands.{Stands, is_idle}
+use Rattle.world_model.specs.Advancing.{Advances}
+use Rattle.router_core.specs.Stands.{Stands, live_in}
 use Rattle.router_core.specs.Ties.{Ties}
 use Rattle.router_core.proofs.router.Router.take_queued.Given as goal
 
@@ -10,14 +9,10 @@ use Rattle.router_core.proofs.router.Router.take_queued.Given as goal
 abbrev pub invariant-taking : goal.invariant-taking
 invariant-taking g l = record {
   ties : (marks : List HistoryMark) → Ties (Stands l.fn.self) (g.F.Fabric.told l.fn.fabric) marks → Ties (Stands l.self) (g.F.Fabric.told l.fabric) marks;
-  idle : is_idle l.self.stage ≡ is_idle l.fn.self.stage;
+  live : live_in l.self.stages ≡ live_in l.fn.self.stages;
   begun : l.self.begun ≡ l.fn.self.begun;
   shape : l.self.shape ≡ l.fn.self.shape;
-  opened : g.F.Fabric.opened l.fabric ≡ g.F.Fabric.opened l.fn.fabric;
-  later : g.F.Fabric.faults l.fn.fabric ≤ g.F.Fabric.faults l.fabric;
-  run : (cluster : Shape) (place : List ℕ) → KeepsRun (g.F.Fabric.runs l.fn.fabric cluster place) (g.F.Fabric.runs l.fabric cluster place);
-  goes : g.F.Fabric.goes l.fn.fabric l.fabric;
-  falls : g.F.Fabric.falls l.fn.fabric l.fabric;
+  net : Advances g.F.Fabric.faults g.F.Fabric.opened g.F.Fabric.runs g.F.Fabric.advances l.fn.fabric l.fabric true;
 }
 
 -- each turn takes an event, and a router counts fewer than 2 ^ 64 of them
