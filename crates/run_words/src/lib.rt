@@ -32,6 +32,9 @@
 //!   (`usage`). The shape lies within its limits (`shape`).
 //! - Words spell the settings of one run at most (`words_laws`).
 //!
+//! The options are parsed by `clap` (`options`), whose clauses say for such a command which words it refuses and what its matches
+//! hold. That a word like `-`, `-n` or `--` is no word of options is decided before, and numbers and pathnames are read behind it.
+//!
 //! # Tested
 //!
 //! Seven lists of words with all their numbers and folders; `front_end` runs twenty-one lists that are outside of the grammar.
