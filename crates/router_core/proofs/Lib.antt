@@ -18,4 +18,6 @@ pub mod PollLaws
 pub mod SendLaws
 pub mod OthersLaws
 pub mod TableLaws
+pub mod BesideLaws
+pub mod ToldTableLaws
 pub mod TakingLaws

@@ -1,4 +1,4 @@
--- The table of the live operations: one of them is taken out, works and is put back, and a further one begins.
+-- The table of the live operations: one of them is taken out, works and is put back.
 use Rattle.std.proofs.Common.{◌≡◌, ℕ, ◌+◌, ◌^◌, ◌<◌, ◌≤◌, List, [], ◌∷◌, ◌++◌, length, take, drop, set, suc, zero, slice_index_or, Option, Some, None, refl, sym, ap, ◌∙◌, subst, inl, inr, arith}
 use Rattle.std.proofs.lemmas.List.{drop-set-lt, drop_more, set_split, take-append-drop, take_more_set}
 use Rattle.blob_id.specs.declared.id.BlobId.{BlobId}
@@ -116,78 +116,9 @@ unfocus shape clock events begun turns n rest more stage r same a =
     number : {operation : ℕ} → Some n ≡ Some operation → n ≡ operation
     number e = cc
 
--- ---- a further one begins
-
-below_other : (shape : Shape) (begun : ℕ) (n : ℕ) (stages : List Stage) → begun + 1 < 2 ^ 31 → FitStages shape begun n stages → EachStage (IsOther (begun + 1)) stages
-below_other shape begun n [] l f = tt
-below_other shape begun n (stage ∷ stages) l f = (one stage f.0, below_other shape begun (number_of stage + 1) stages l f.2)
-  where
-    one : (stage : Stage) → FitsStage shape begun stage → IsOther (begun + 1) stage
-    one (Stage.UnderWay live) g = let k = g.0 in (λ e. omega (arith, k, e), omega (arith, k, l))
-    one (Stage.Over operation outcome turn) g = let k = g.0 in (λ e. omega (arith, k, e), omega (arith, k, l))
-
--- those that rest do so behind its begin
-begun_beside : (shape : Shape) (clock events begun turns : ℕ) (how : Begun) (stages : List Stage) (r : Record) → begun + 1 < 2 ^ 31 → EachStage (IsOther (begun + 1)) stages → Counts shape clock events (among begun turns stages []) r
-    → Counts shape clock events (around (begun + 1) (turns + 1) (begun + 1) stages []) (Marked (Begin (begun + 1) how) ∷ r)
-begun_beside shape clock events begun turns how stages r low others c =
-    let going : IsGoing (simple_rules shape) (Marked (Begin (begun + 1) how) ∷ r) = (begins_next shape r (begun + 1) how c.going (let b = c.begun_are in omega (arith, b)) low).going in
-    record {
-      clock_is = c.clock_is;
-      events_are = c.events_are;
-      begun_are = let b = c.begun_are in omega (arith, b);
-      turns_are = let t = c.turns_are in omega (arith, t);
-      aims = within_stays (Marked (Begin (begun + 1) how)) r (λ x p a e. absurd cc) (omega arith) c.aims;
-      going = going;
-      rest = rest_apart shape (Marked (Begin (begun + 1) how)) r (begun + 1) stages going (own_begun (begun + 1) how r) others c.rest;
-      more = tt;
-      ended = λ operation outcome h. elim h [
-        | inl e ↦ absurd (cc e)
-        | inr m ↦ elim (c.ended operation outcome m) [
-          | inl a ↦ inl a
-          | inr b ↦ elim b [
-            | inl x ↦ absurd x
-            | inr d ↦ elim d [ inl x ↦ inr (inr (inl (inr x))) | inr y ↦ absurd (none y) ]
-          ]
-        ]
-      ];
-    }
-  where
-    none : {operation : ℕ} → ◌≡◌ {A = Option ℕ} None (Some operation) → ⊥
-    none e = cc
-
-alone_other : (begun turns : ℕ) (stages : List Stage) → EachStage (IsOther (begun + 1)) stages → AreOthers (begun + 1) (around (begun + 1) (turns + 1) (begun + 1) stages [])
-alone_other begun turns stages others = record { at = refl; rest = others; more = tt }
-
--- while others are live, the next one begins beside them
-pub begins_beside : (old : RouterView) (how : Begun) (stage : Stage) → old.begun + 1 < 2 ^ 31 → FitStages old.shape old.begun 1 old.stages → BeginsAs old.shape old.clock (old.turns + 1) (old.begun + 1) (begin_items (old.begun + 1) how stage) stage
-    → BeginsBeside old (begin_items (old.begun + 1) how stage) stage
-begins_beside old how (Stage.UnderWay live) low fits begins = λ r c.
-    let own = begins r c.going c.aims c.clock_is (let t = c.turns_are in omega (arith, t)) (let b = c.begun_are in omega (arith, b)) in
-    (begun_beside old.shape old.clock old.events old.begun old.turns how old.stages r low (below_other old.shape old.begun 1 old.stages low fits) c, own)
-begins_beside old how (Stage.Over number outcome turn) low fits begins = λ r c.
-    let own = begins r c.going c.aims c.clock_is (let t = c.turns_are in omega (arith, t)) (let b = c.begun_are in omega (arith, b)) in
-    let others = below_other old.shape old.begun 1 old.stages low fits in
-    let mid = begun_beside old.shape old.clock old.events old.begun old.turns how old.stages r low others c in
-    (counts_decided old.shape old.clock old.events (around (old.begun + 1) (old.turns + 1) (old.begun + 1) old.stages []) (old.begun + 1) outcome (Marked (Begin (old.begun + 1) how) ∷ r) (alone_other old.begun old.turns old.stages others) own.over.going mid, own)
-
--- and a put with its draw
-pub put_begins_beside : (old : RouterView) (id : BlobId) (body : List ℕ) (live : Live) → old.begun + 1 < 2 ^ 31 → FitStages old.shape old.begun 1 old.stages → BeginsAs old.shape old.clock (old.turns + 1) (old.begun + 1) (put_items (old.begun + 1) old.clock id body) (Stage.UnderWay live)
-    → BeginsBeside old (put_items (old.begun + 1) old.clock id body) (Stage.UnderWay live)
-put_begins_beside old id body live low fits begins = λ r c.
-    let n : ℕ = old.begun + 1 in
-    let how : Begun = Begun.Put [] body 0 [] [] in
-    let drawn : Item = Drawn n Top 0 id (blob_for old.clock body) in
-    let own = begins r c.going c.aims c.clock_is (let t = c.turns_are in omega (arith, t)) (let b = c.begun_are in omega (arith, b)) in
-    let others = below_other old.shape old.begun 1 old.stages low fits in
-    let mid = begun_beside old.shape old.clock old.events old.begun old.turns how old.stages r low others c in (
-      beside_stays old.shape old.clock old.events n (around n (old.turns + 1) n old.stages []) drawn (Marked (Begin n how) ∷ r) (alone_other old.begun old.turns old.stages others) (own_drawn n Top 0 id (blob_for old.clock body) (Marked (Begin n how) ∷ r))
-          (record { clock = refl; events = refl; begun = refl; turns = refl; decides = λ other outcome e. absurd (cc e) }) (within_stays drawn (Marked (Begin n how) ∷ r) (λ x p a e. absurd cc) (omega arith) mid.aims) own.under_way.going mid,
-      own,
-    )
-
 -- ---- the table, at a place
 
-number_most : (shape : Shape) (begun : ℕ) (stage : Stage) → FitsStage shape begun stage → number_of stage ≤ begun
+pub number_most : (shape : Shape) (begun : ℕ) (stage : Stage) → FitsStage shape begun stage → number_of stage ≤ begun
 number_most shape begun (Stage.UnderWay live) f = f.0
 number_most shape begun (Stage.Over operation outcome turn) f = f.0
 
@@ -259,101 +190,6 @@ fits_settled shape begun items place old new small split same fits f =
     subst (λ (l : List Stage). FitStages shape begun 1 l) (sym (set_split items place new small))
     (subst (λ (k : ℕ). FitStages shape begun 1 (take place items ++ new ∷ drop k items)) next (fits_set shape begun (take place items) 1 old new (drop (place + 1) items) same (fits (fits_one shape begun (take place items) 1 old (drop (place + 1) items) g)) g))
 
--- ---- telling them, one after the other
-
-pub told_append : (heard : Heard) (events : ℕ) (xs ys cs bs : List Stage) → AllTold heard events xs ys → AllTold heard events cs bs → AllTold heard events (xs ++ cs) (ys ++ bs)
-told_append heard events [] [] cs bs p q = q
-told_append heard events [] (y ∷ ys) cs bs p q = absurd p
-told_append heard events (x ∷ xs) [] cs bs p q = absurd p
-told_append heard events (x ∷ xs) (y ∷ ys) cs bs p q = (p.0, told_append heard events xs ys cs bs p.1 q)
-
-pub told_as : (h g : Heard) (events : ℕ) (old new : Stage) → heard_by (number_of old) h ≡ heard_by (number_of old) g → IsToldStage h events old new → IsToldStage g events old new
-told_as h g events (Stage.UnderWay old) (Stage.UnderWay new) e t = subst (λ (x : Heard). IsTold x events old new) e t
-told_as h g events (Stage.UnderWay old) (Stage.Over operation outcome turn) e t = absurd t
-told_as h g events (Stage.Over operation outcome turn) new e t = t
-
-each_split : (P : Stage → Type 0) (xs : List Stage) (y : Stage) → EachStage P (xs ++ y ∷ []) → EachStage P xs × P y
-each_split P [] y e = (tt, e.0)
-each_split P (x ∷ xs) y e = let r = each_split P xs y e.1 in ((e.0, r.0), r.1)
-
-each_apart : (operation : ℕ) (xs : List Stage) → EachStage (IsOther operation) xs → EachStage (λ stage. number_of stage ≡ operation → ⊥) xs
-each_apart operation [] e = tt
-each_apart operation (x ∷ xs) e = (e.0.0, each_apart operation xs e.1)
-
-take_next : (xs : List Stage) (i : ℕ) (y : Stage) (ys : List Stage) → drop i xs ≡ y ∷ ys → take (suc i) xs ≡ take i xs ++ y ∷ []
-take_next [] zero y ys e = absurd cc
-take_next [] (suc i) y ys e = absurd cc
-take_next (x ∷ xs) zero y ys e = let z : x ≡ y = cc in ap (λ (s : Stage). s ∷ []) z
-take_next (x ∷ xs) (suc i) y ys e = ap (λ (l : List Stage). x ∷ l) (take_next xs i y ys e)
-
--- one more was told
-pub one_told : (first left : Heard) (events place known : ℕ) (shape : Shape) (items begin : List Stage) (old new : Stage) → place < length items → IsSplit items place old → known < 2 ^ 31 → FitStages shape known 1 items → drop place items ≡ drop place begin
-    → ((other : ℕ) → EachStage (λ stage. number_of stage ≡ other → ⊥) (take place items) → heard_by other left ≡ heard_by other first) → IsToldStage left events old new → AllTold first events (take place begin) (take place items)
-    → AllTold first events (take (place + 1) begin) (take (place + 1) (set items place new))
-one_told first left events place known shape items begin old new small split low fits same others told so_far =
-    let xs : List Stage = take place items in
-    let ys : List Stage = drop (place + 1) items in
-    let f : FitStages shape known 1 (xs ++ old ∷ ys) = subst (λ (l : List Stage). FitStages shape known 1 l) split.whole fits in
-    let apart = each_apart (number_of old) xs (fits_before shape known xs 1 old ys low f) in
-    let there : IsToldStage first events old new = told_as left first events old new (others (number_of old) apart) told in
-    let next : suc place ≡ place + 1 = omega arith in
-    let before : take (place + 1) begin ≡ take place begin ++ old ∷ [] = subst (λ (k : ℕ). take k begin ≡ take place begin ++ old ∷ []) next (take_next begin place old ys (sym same ∙ split.left)) in
-    subst (λ (l : List Stage). AllTold first events l (take (place + 1) (set items place new))) (sym before)
-    (subst (λ (l : List Stage). AllTold first events (take place begin ++ old ∷ []) l) (sym (take_more_set items place new small)) (told_append first events (take place begin) xs (old ∷ []) (new ∷ []) so_far (there, tt)))
-
-pub others_hear : (first left after : Heard) (place : ℕ) (items : List Stage) (old new : Stage) → place < length items → number_of new ≡ number_of old → ((other : ℕ) → EachStage (λ stage. number_of stage ≡ other → ⊥) (take place items) → heard_by other left ≡ heard_by other first)
-    → ((other : ℕ) → (number_of old ≡ other → ⊥) → heard_by other after ≡ heard_by other left)
-    → (other : ℕ) → EachStage (λ stage. number_of stage ≡ other → ⊥) (take (place + 1) (set items place new)) → heard_by other after ≡ heard_by other first
-others_hear first left after place items old new small same before now other each =
-    let r = each_split (λ stage. number_of stage ≡ other → ⊥) (take place items) new (subst (λ (l : List Stage). EachStage (λ stage. number_of stage ≡ other → ⊥) l) (take_more_set items place new small) each) in
-    now other (λ e. r.1 (same ∙ e)) ∙ before other r.0
-
--- ---- a router with one operation more
-
--- as many as there are numbers
-pub live_length : (stages : List Stage) → length (live_in stages) ≡ length stages
-live_length [] = refl
-live_length (x ∷ stages) = let e = live_length stages in omega (arith, e)
-
-pub length_more : (xs : List Stage) (y : Stage) → length (xs ++ y ∷ []) ≡ length xs + 1
-length_more [] y = omega arith
-length_more (x ∷ xs) y = let e = length_more xs y in omega (arith, e)
-
-fits_later : (shape : Shape) (begun : ℕ) (stage : Stage) → FitsStage shape begun stage → FitsStage shape (begun + 1) stage
-fits_later shape begun (Stage.UnderWay live) f = (let k = f.0 in omega (arith, k), f.1)
-fits_later shape begun (Stage.Over operation outcome turn) f = (let k = f.0 in omega (arith, k), f.1)
-
-pub fits_pushed : (shape : Shape) (begun : ℕ) (n : ℕ) (stages : List Stage) (stage : Stage) → n ≤ begun + 1 → number_of stage ≡ begun + 1 → FitsStage shape (begun + 1) stage → FitStages shape begun n stages → FitStages shape (begun + 1) n (stages ++ stage ∷ [])
-fits_pushed shape begun n [] stage least same fits f = (fits, omega (arith, least, same), tt)
-fits_pushed shape begun n (x ∷ stages) stage least same fits f =
-    let m = number_most shape begun x f.0 in
-    (fits_later shape begun x f.0, f.1, fits_pushed shape begun (number_of x + 1) stages stage (omega (arith, m)) same fits f.2)
-
-pub pushed_fits : (old : RouterView) (turns : ℕ) (stage : Stage) (stages : List Stage) → Fits old → stages ≡ old.stages ++ stage ∷ [] → length (live_in old.stages) < 16 → old.begun + 1 < 2 ^ 31 → FitsStage old.shape (old.begun + 1) stage → number_of stage ≡ old.begun + 1
-    → Fits (record { shape = old.shape; clock = old.clock; events = old.events; begun = old.begun + 1; turns = turns; stages = stages })
-pushed_fits old turns stage stages fits is room low one same = record {
-  shape = fits.shape;
-  number = low;
-  few = subst (λ (l : List Stage). length l ≤ 16) (sym is) (let more = length_more old.stages stage in let many = live_length old.stages in let few : length (old.stages ++ stage ∷ []) ≤ 16 = omega (arith, more, many, room) in few);
-  stages = subst (λ (l : List Stage). FitStages old.shape (old.begun + 1) 1 l) (sym is) (fits_pushed old.shape old.begun 1 old.stages stage (omega arith) same one fits.stages);
-}
-
--- against the calls: the others rest, the new one settles, and all of them rest
-pub ties_begun : (old : RouterView) (items : Record) (stage new : Stage) (told told' : Option (List Called)) (marks : List HistoryMark) → old.begun + 1 < 2 ^ 31 → FitStages old.shape old.begun 1 old.stages → AllSession items → BeginsBeside old items stage
-    → number_of stage ≡ old.begun + 1 → number_of new ≡ number_of stage
-    → ((beside : Beside) (marks : List HistoryMark) → beside.turns ≡ old.turns + 1 → AreOthers (number_of stage) beside → Ties (At old.shape (λ r. OwnsStage old.shape r stage) old.clock old.events beside) told marks → Ties (At old.shape (λ r. RestsStage old.shape r new) old.clock old.events beside) told' marks)
-    → Ties (Stands old) told marks → Ties (Stands (record { shape = old.shape; clock = old.clock; events = old.events; begun = old.begun + 1; turns = old.turns + 1; stages = old.stages ++ new ∷ [] })) told' (marks_of items ++ marks)
-ties_begun old items stage new told told' marks low fits session begins same still settles t =
-    let n : ℕ = old.begun + 1 in
-    let others = below_other old.shape old.begun 1 old.stages low fits in
-    let beside : Beside = around n (old.turns + 1) n old.stages [] in
-    let next : RouterView = record { shape = old.shape; clock = old.clock; events = old.events; begun = n; turns = old.turns + 1; stages = old.stages ++ new ∷ [] } in
-    let begun : Ties (At old.shape (λ r. OwnsStage old.shape r stage) old.clock old.events beside) told (marks_of items ++ marks) =
-    tie_items (Stands old) (At old.shape (λ r. OwnsStage old.shape r stage) old.clock old.events beside) items told marks session begins t in
-    let apart : AreOthers (number_of stage) beside = subst (λ (k : ℕ). AreOthers k beside) (sym same) (alone_other old.begun old.turns old.stages others) in
-    tie_same (At old.shape (λ r. RestsStage old.shape r new) old.clock old.events beside) (Stands next) told' (marks_of items ++ marks) (settles beside (marks_of items ++ marks) refl apart begun)
-    (λ r a. unfocus old.shape old.clock old.events n (old.turns + 1) n old.stages [] new r (still ∙ same) a)
-
 -- ---- the numbers of the live operations
 
 pub live_set : (items : List Stage) (place : ℕ) (old new : Stage) → place < length items → IsSplit items place old → number_of new ≡ number_of old → live_in (set items place new) ≡ live_in items
@@ -370,12 +206,12 @@ pub live_added : (stages : List Stage) (stage : Stage) → live_in (stages ++ st
 live_added [] stage = refl
 live_added (x ∷ stages) stage = ap (λ (l : List ℕ). number_of x ∷ l) (live_added stages stage)
 
+-- as many as there are numbers
+pub live_length : (stages : List Stage) → length (live_in stages) ≡ length stages
+live_length [] = refl
+live_length (x ∷ stages) = let e = live_length stages in omega (arith, e)
+
 pub live_same : (stages others : List Stage) → live_in stages ≡ live_in others → length stages ≡ length others
 live_same stages others e = sym (live_length stages) ∙ (ap length e ∙ live_length others)
 
 -- one that is over at once rests
-pub ties_over_at_once : (old : RouterView) (items : Record) (operation : ℕ) (outcome : Outcome) (turn : ℕ) (told : Option (List Called)) (marks : List HistoryMark) → operation ≡ old.begun + 1 → AllSession items → BeginsBeside old items (Stage.Over operation outcome turn) → Ties (Stands old) told marks
-    → Ties (Stands (with_stage old (Stage.Over operation outcome turn))) told (marks_of items ++ marks)
-ties_over_at_once old items operation outcome turn told marks same session begins t =
-    tie_items (Stands old) (Stands (with_stage old (Stage.Over operation outcome turn))) items told marks session
-    (λ r c. let a = begins r c in unfocus old.shape old.clock old.events (old.begun + 1) (old.turns + 1) (old.begun + 1) old.stages [] (Stage.Over operation outcome turn) (items ++ r) same (a.0, (a.1, tt))) t

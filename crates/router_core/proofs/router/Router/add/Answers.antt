@@ -1,7 +1,7 @@
 use Rattle.std.proofs.Common.{◌≡◌, ◌+◌, ◌<◌, ◌^◌, length, sym, subst}
 use Rattle.router_core.specs.Fits.{FitsStage, RouterView, number_of}
 use Rattle.router_core.specs.Stands.{live_in}
-use Rattle.router_core.proofs.TableLaws.{pushed_fits}
+use Rattle.router_core.proofs.BesideLaws.{pushed_fits}
 use Rattle.router_core.proofs.router.Router.add.Goals as goal
 
 pub invariant_of-self-2 : goal.invariant_of-self-2

@@ -5,7 +5,7 @@ use Rattle.router_core.specs.Beginning.{BeginsBeside, with_stage}
 use Rattle.router_core.specs.Fits.{FitsStage, RouterView, number_of}
 use Rattle.router_core.specs.Stands.{Stands}
 use Rattle.router_core.specs.Ties.{Ties}
-use Rattle.router_core.proofs.TableLaws.{ties_begun}
+use Rattle.router_core.proofs.BesideLaws.{ties_begun}
 use Rattle.router_core.proofs.router.Router.begin.Goals as goal
 
 pub add-requires-clause-fits : goal.add-requires-clause-fits

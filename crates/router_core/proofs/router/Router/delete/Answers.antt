@@ -7,7 +7,7 @@ use Rattle.router_core.specs.Fits.{RouterView}
 use Rattle.router_core.specs.Stands.{Stands}
 use Rattle.router_core.specs.Ties.{Ties}
 use Rattle.router_core.proofs.BeginLaws.{all_session, begin_marks}
-use Rattle.router_core.proofs.TableLaws.{begins_beside}
+use Rattle.router_core.proofs.BesideLaws.{begins_beside}
 use Rattle.router_core.proofs.router.Router.delete.Goals as goal
 
 pub returns-clause-ties : goal.returns-clause-ties

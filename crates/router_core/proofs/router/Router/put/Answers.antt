@@ -5,7 +5,7 @@ use Rattle.router_core.specs.Beginning.{BeginsBeside, put_items}
 use Rattle.router_core.specs.declared.router.Stage.{Stage}
 use Rattle.router_core.specs.Fits.{RouterView}
 use Rattle.router_core.proofs.BeginLaws.{put_begins}
-use Rattle.router_core.proofs.TableLaws.{put_begins_beside}
+use Rattle.router_core.proofs.BesideLaws.{put_begins_beside}
 use Rattle.router_core.proofs.router.Router.put.Goals as goal
 
 pub returns-clause-ties : goal.returns-clause-ties

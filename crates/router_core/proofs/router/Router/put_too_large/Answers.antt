@@ -9,7 +9,7 @@ use Rattle.router_core.specs.Fits.{RouterView}
 use Rattle.router_core.specs.Stands.{Stands}
 use Rattle.router_core.specs.Ties.{Ties}
 use Rattle.router_core.proofs.BeginLaws.{large_begins}
-use Rattle.router_core.proofs.TableLaws.{begins_beside, ties_over_at_once}
+use Rattle.router_core.proofs.BesideLaws.{begins_beside, ties_over_at_once}
 use Rattle.router_core.proofs.router.Router.put_too_large.Goals as goal
 
 pub returns-clause-ties : goal.returns-clause-ties
