@@ -1,5 +1,5 @@
 -- What calls make of the network in memory adds up.
-use Rattle.std.specs.Prelude.{◌≡◌, ℕ, Bool, true, false, ◌&&◌, List, refl}
+use Rattle.std.specs.Prelude.{ℕ, Bool, true, false, ◌&&◌, List, refl}
 use Rattle.std.proofs.Common.{◌∙◌}
 use Rattle.disk_core.specs.Content.{Content}
 use Rattle.disk_core.specs.Homes.{Home, Out}

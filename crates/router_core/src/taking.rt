@@ -1,6 +1,6 @@
 //! Which operation that is over goes first.
 
-ghost use Rattle.std.specs.Prelude.{◌≡◌, ◌<◌, ℕ, ◌++◌, List, [], ◌∷◌, length, true, Option, IfSome, IsNone};
+ghost use Rattle.std.specs.Prelude.{◌≡◌, ◌<◌, ◌++◌, List, [], ◌∷◌, length, true, Option, IfSome, IsNone};
 ghost use Rattle.std.specs.List.{list_all};
 ghost use Rattle.router_core.specs.declared.router.Stage.{Stage};
 ghost use Rattle.router_core.specs.Ending.{IsFirst, IsFirstAt, goes_first};

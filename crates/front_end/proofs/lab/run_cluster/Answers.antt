@@ -1,4 +1,4 @@
-use Rattle.std.proofs.Common.{◌∙◌, true, false, ap, refl, Err, inl, inr}
+use Rattle.std.proofs.Common.{true, false, ap, refl, Err, inl, inr}
 use Rattle.mem_fabric.specs.AdvancingLaws.{over_on}
 use Rattle.mem_fabric.specs.Past.{calls_of}
 use Rattle.mem_fabric.specs.PlayedLaws.{plays_on}

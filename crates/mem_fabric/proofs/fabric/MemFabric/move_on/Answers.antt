@@ -11,13 +11,13 @@ returns-clause-net g c = record {
   opened = search rules;
   run = search rules;
   own = record {
-      played = plays_next (g.M.Moves.given c.args.self.now.moves) (g.M.Moves.given c.pick-chosen.new.self) (network_of c.args.self.now.cluster) (network_of c.act.new.self) c.pick-chosen.result c.act.result
-          (has_shape c.args.self.now.opened c.args.self.now.cluster.shape c.requires.open) c.requires.calm c.act.ensures.does
-          (c.pick-chosen.ensures.given ∙ ap (λ l. l ++ c.pick-chosen.result ∷ []) c.in_ok-ready.ensures.given);
-      same = g.met.M.Moves.same_on c.args.self.now.moves c.ready.new.self c.pick-chosen.new.self c.in_ok-ready.ensures.same c.pick-chosen.ensures.same;
-      begun = c.pick-chosen.ensures.seeds ∙ c.in_ok-ready.ensures.seeds;
-      bays = c.act.ensures.goes.bays;
-      packing = c.act.ensures.goes.packing;
+    played = plays_next (g.M.Moves.given c.args.self.now.moves) (g.M.Moves.given c.pick-chosen.new.self) (network_of c.args.self.now.cluster) (network_of c.act.new.self) c.pick-chosen.result c.act.result
+        (has_shape c.args.self.now.opened c.args.self.now.cluster.shape c.requires.open) c.requires.calm c.act.ensures.does
+        (c.pick-chosen.ensures.given ∙ ap (λ l. l ++ c.pick-chosen.result ∷ []) c.in_ok-ready.ensures.given);
+    same = g.met.M.Moves.same_on c.args.self.now.moves c.ready.new.self c.pick-chosen.new.self c.in_ok-ready.ensures.same c.pick-chosen.ensures.same;
+    begun = c.pick-chosen.ensures.seeds ∙ c.in_ok-ready.ensures.seeds;
+    bays = c.act.ensures.goes.bays;
+    packing = c.act.ensures.goes.packing;
   };
 }
 
@@ -27,11 +27,11 @@ returns-in_err-ready-clause-net g c = record {
   opened = refl;
   run = λ cluster place opening before. before;
   own = record {
-      played = plays_none (g.M.Moves.given c.args.self.now.moves) (g.M.Moves.given c.ready.new.self) c.args.self.now.cluster c.args.self.now.cluster _ c.ready.ensures.given refl;
-      same = c.ready.ensures.same;
-      begun = c.ready.ensures.seeds;
-      bays = bays_stay g.B.Bays.tells g.B.Bays.out g.B.Bays.same c.args.self.now.nodes (g.met.B.Bays.same_self c.args.self.now.nodes.bays);
-      packing = packing_stays g.B.Disk.Disk.tells g.B.Disk.Disk.content g.B.Bays.home (calls_of c.args.self.now.cluster.past) c.args.self.now.nodes;
+    played = plays_none (g.M.Moves.given c.args.self.now.moves) (g.M.Moves.given c.ready.new.self) c.args.self.now.cluster c.args.self.now.cluster _ c.ready.ensures.given refl;
+    same = c.ready.ensures.same;
+    begun = c.ready.ensures.seeds;
+    bays = bays_stay g.B.Bays.tells g.B.Bays.out g.B.Bays.same c.args.self.now.nodes (g.met.B.Bays.same_self c.args.self.now.nodes.bays);
+    packing = packing_stays g.B.Disk.Disk.tells g.B.Disk.Disk.content g.B.Bays.home (calls_of c.args.self.now.cluster.past) c.args.self.now.nodes;
   };
 }
 

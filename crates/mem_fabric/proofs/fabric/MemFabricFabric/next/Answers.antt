@@ -11,10 +11,10 @@ returns-else-queued-eq0-clause-net g c = record {
   opened = search rules;
   run = search rules;
   own = record {
-      played = plays_given (g.M.Moves.given c.args.self.now.moves) (network_of c.args.self.now.cluster) (network_of c.give.new.self) c.give.result c.give.ensures.oldest c.give.ensures.network;
-      same = g.met.M.Moves.same_self c.args.self.now.moves;
-      begun = refl;
-      bays = bays_stay g.B.Bays.tells g.B.Bays.out g.B.Bays.same c.args.self.now.nodes (g.met.B.Bays.same_self c.args.self.now.nodes.bays);
-      packing = packing_kept g.B.Bays.tells g.B.Disk.Disk.tells g.B.Disk.Disk.content g.B.Disk.Disk.faults g.B.Bays.home g.B.Bays.out g.B.Bays.same c.args.self.now.cluster c.give.new.self c.args.self.now.nodes c.give.ensures.run;
+    played = plays_given (g.M.Moves.given c.args.self.now.moves) (network_of c.args.self.now.cluster) (network_of c.give.new.self) c.give.result c.give.ensures.oldest c.give.ensures.network;
+    same = g.met.M.Moves.same_self c.args.self.now.moves;
+    begun = refl;
+    bays = bays_stay g.B.Bays.tells g.B.Bays.out g.B.Bays.same c.args.self.now.nodes (g.met.B.Bays.same_self c.args.self.now.nodes.bays);
+    packing = packing_kept g.B.Bays.tells g.B.Disk.Disk.tells g.B.Disk.Disk.content g.B.Disk.Disk.faults g.B.Bays.home g.B.Bays.out g.B.Bays.same c.args.self.now.cluster c.give.new.self c.args.self.now.nodes c.give.ensures.run;
   };
 }

@@ -1,11 +1,10 @@
-use Rattle.std.proofs.Common.{◌≡◌, Err, ap, refl, subst, sym}
+use Rattle.std.proofs.Common.{◌≡◌, Err, ap, refl, subst}
 use Rattle.std.specs.Option.{is_some}
 use Rattle.lab_nodes.specs.Nodes.{is_up}
 use Rattle.lab_nodes.specs.Starting.{IsFirst}
 use Rattle.lab_nodes.specs.declared.fault.NodesFault.{NodesFault}
 use Rattle.lab_nodes.specs.declared.places.Which.{Which}
 use Rattle.mem_fabric.specs.Past.{calls_of}
-use Rattle.mem_fabric.specs.Sound.{network_of}
 use Rattle.mem_fabric.proofs.Goes.{home_stays, keeps_itself, packing_fresh, packs_at, run_at}
 use Rattle.mem_fabric.proofs.Playing.{plays_none, plays_open}
 use Rattle.mem_fabric.proofs.fabric.MemFabricFabric.open.Goals as goal
