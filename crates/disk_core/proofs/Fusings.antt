@@ -6,10 +6,12 @@ use Rattle.disk_core.specs.declared.mem_disk.MemDisk.{MemDisk}
 use Rattle.disk_core.specs.declared.fuse_disk.FuseDisk.{FuseDisk}
 use Rattle.disk_core.specs.declared.fuse_disk.Fuse.TheVariants.{Absent}
 use Rattle.disk_core.specs.declared.bays.BayFault.{BayFault}
+use Rattle.disk_core.specs.declared.unsynced.Pick.{Pick}
 use Rattle.disk_core.specs.declared.bays.BayFault.TheVariants.{Failed, OtherSize, Memory}
 use Rattle.disk_core.specs.Content.{IsNewContent}
-use Rattle.disk_core.specs.MemDisk.{content_of, size_of}
-use Rattle.disk_core.specs.FuseBays.{content_in, size_in, fused, fused_home}
+use Rattle.disk_core.specs.MemDisk.{content_of, size_of, pick_of}
+use Rattle.disk_core.specs.declared.fuse_bays.PlacedFuse.{PlacedFuse}
+use Rattle.disk_core.specs.FuseBays.{content_in, size_in, fused, fused_home, picked, pick_at}
 use Rattle.disk_core.specs.Homes.{Home, Out, Stays, SameDisk, TakesOut, PutsHome, HasOtherSize, AnswersSize}
 
 abbrev unfused : Option (FuseDisk MemDisk) → Option MemDisk
@@ -28,6 +30,19 @@ fused_none o is = sym (unfused_fused o) ∙ ap unfused is
 
 same_fused : (old new : FuseDisk MemDisk) → SameDisk (Unit {0}) content_of size_of old.disk new.disk → SameDisk (Unit {0}) content_in size_in old new
 same_fused old new same = record { bytes = same.bytes; told = λ u. same.told u }
+
+-- a disk is taken out with the pick of its fuse
+module _ (f : List ℕ) (n p size : ℕ) (disk : MemDisk) (home : Home MemDisk) (out : Out) (new_home : Home MemDisk) (new_out : Out) where
+  pub picked_takes : (fuse : Option PlacedFuse) → TakesOut (Unit {0}) content_of size_of f n p size disk home out new_home new_out → TakesOut (Unit {0}) content_of size_of f n p size (picked fuse disk) home out new_home new_out
+  picked_takes None t = t
+  picked_takes (Some placed) t = record {
+    same = λ kept at. record { bytes = (t.same kept at).bytes; told = (t.same kept at).told };
+    fresh = t.fresh;
+    was_in = t.was_in;
+    is_out = t.is_out;
+    left = t.left;
+    others = t.others;
+  }
 
 module _ (f : List ℕ) (n p size : ℕ) (disk : MemDisk) (held : FuseDisk MemDisk) (is : held.disk ≡ disk) (home : Home MemDisk) (out : Out) (new_home : Home MemDisk) (new_out : Out) where
   pub fused_takes : TakesOut (Unit {0}) content_of size_of f n p size disk home out new_home new_out → TakesOut (Unit {0}) content_in size_in f n p size held (fused_home home) out (fused_home new_home) new_out
@@ -82,3 +97,10 @@ fused_answers kept size r a = record {
       inr (⊎_elim (λ (is : IsErrOf (below r) Failed). inl (err_above r Failed is)) (λ (is : IsErrOf (below r) Memory). inr (err_above r Memory is)) rest))
       (a.always n (record { disk = other.disk.disk; at_home = fused_some kept other.disk other.at_home; bytes = other.bytes; differs = other.differs }));
 }
+
+pub picked_pick : (fuse : Option PlacedFuse) (home : Option MemDisk) (new : Pick) (disk : MemDisk)
+    → ((kept : MemDisk) → home ≡ Some kept → disk ≡ kept) → (home ≡ None → pick_of disk ≡ new)
+    → pick_of (picked fuse disk) ≡ pick_at fuse home new
+picked_pick (Some placed) home new disk kept fresh = refl
+picked_pick None (Some at_home) new disk kept fresh = ap pick_of (kept at_home refl)
+picked_pick None None new disk kept fresh = fresh refl

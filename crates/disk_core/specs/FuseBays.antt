@@ -1,13 +1,16 @@
 -- What bays with a fuse show of themselves.
-use Rattle.std.specs.Prelude.{◌≡◌, ℕ, Bool, true, false, cond, ◌&&◌, nat_eq, Option, Some, None, Result, OnOk, OnErr}
+use Rattle.std.specs.Prelude.{◌≡◌, ℕ, List, filter, Bool, not, ◌&&◌, nat_eq, Option, Some, None, Result, OnOk, OnErr}
+use Rattle.std.specs.List.{find}
 use Rattle.disk_core.specs.declared.fuse_bays.FuseBays.{FuseBays}
+use Rattle.disk_core.specs.declared.fuse_bays.PlacedFuse.{PlacedFuse}
 use Rattle.disk_core.specs.declared.fuse_disk.FuseDisk.{FuseDisk}
 use Rattle.disk_core.specs.declared.fuse_disk.Fuse.{Fuse}
 use Rattle.disk_core.specs.declared.fuse_disk.Fuse.TheVariants.{Absent, Passes}
 use Rattle.disk_core.specs.declared.mem_bays.MemBays.{MemBays}
 use Rattle.disk_core.specs.declared.mem_disk.MemDisk.{MemDisk}
 use Rattle.disk_core.specs.Content.{Content}
-use Rattle.disk_core.specs.MemDisk.{content_of, size_of}
+use Rattle.disk_core.specs.declared.unsynced.Pick.{Pick}
+use Rattle.disk_core.specs.MemDisk.{content_of, size_of, pick_of, with_pick}
 use Rattle.disk_core.specs.Homes.{Home}
 
 -- the bays below
@@ -28,36 +31,39 @@ fused (Some disk) = Some (record { disk = disk; fuse = Absent; faults = 0 })
 abbrev pub fused_home : Home MemDisk → Home (FuseDisk MemDisk)
 fused_home home folder node partition = fused (home folder node partition)
 
--- the next opening of this disk is the first of the stated one
-abbrev pub blows_at : FuseBays → ℕ → ℕ → Bool
-blows_at bays node partition = (bays.armed && nat_eq node bays.node) && nat_eq partition bays.partition
+-- the fuses that weren't handed out
+abbrev pub fuses_of : FuseBays → List PlacedFuse
+fuses_of bays = bays.fuses.items
 
--- the fuse of the next opening of this disk
-abbrev pub fuse_for : FuseBays → ℕ → ℕ → Fuse
-fuse_for bays node partition = cond (blows_at bays node partition) (Passes bays.passes) Absent
+-- the fuse is for the disk of this node and this partition
+abbrev pub is_placed : ℕ → ℕ → PlacedFuse → Bool
+is_placed node partition fuse = nat_eq fuse.node node && nat_eq fuse.partition partition
 
--- whether the stated disk is still to be handed out, once this one was
-abbrev pub armed_after : FuseBays → ℕ → ℕ → Bool
-armed_after bays node partition = cond (blows_at bays node partition) false bays.armed
+-- the fuse that is placed for this disk
+abbrev pub fuse_at : FuseBays → ℕ → ℕ → Option PlacedFuse
+fuse_at bays node partition = find (is_placed node partition) (fuses_of bays)
 
--- The disk of this node and this partition is to pass so many calls at its first opening.
-pub record IsArmed (node partition passes : ℕ) (bays : FuseBays) : Type 0 where
-  pub armed : bays.armed ≡ true
-  pub node_is : bays.node ≡ node
-  pub partition_is : bays.partition ≡ partition
-  pub passes_is : bays.passes ≡ passes
+-- the fuses for other disks
+abbrev pub without : ℕ → ℕ → List PlacedFuse → List PlacedFuse
+without node partition fuses = filter (λ fuse. not (is_placed node partition fuse)) fuses
 
--- Only an opening that succeeds uses the fuse up.
-pub record ArmsAfter {T E : Type 0} (node partition : ℕ) (result : Result T E) (old new : FuseBays) : Type 0 where
-  pub opened : OnOk result (new.armed ≡ armed_after old node partition)
-  pub refused : OnErr result (new.armed ≡ old.armed)
-  pub node_stays : new.node ≡ old.node
-  pub partition_stays : new.partition ≡ old.partition
-  pub passes_stays : new.passes ≡ old.passes
+-- which calls of a disk fail that is handed out with this fuse, or with none
+abbrev pub fuse_for : Option PlacedFuse → Fuse
+fuse_for None = Absent
+fuse_for (Some placed) = Passes placed.passes
 
--- The fuse stays as it is.
-pub record KeepsArming (old new : FuseBays) : Type 0 where
-  pub armed_stays : new.armed ≡ old.armed
-  pub node_stays : new.node ≡ old.node
-  pub partition_stays : new.partition ≡ old.partition
-  pub passes_stays : new.passes ≡ old.passes
+-- the disk as it is handed out with this fuse, or with none
+abbrev pub picked : Option PlacedFuse → MemDisk → MemDisk
+picked None disk = disk
+picked (Some placed) disk = with_pick placed.pick disk
+
+-- what a stop leaves of it: what its fuse says, else what it was made with; a new one is made as the bays were
+abbrev pub pick_at : Option PlacedFuse → Option MemDisk → Pick → Pick
+pick_at (Some placed) kept new = placed.pick
+pick_at None (Some disk) new = pick_of disk
+pick_at None None new = new
+
+-- Only an opening that succeeds uses the fuse of its disk up.
+pub record UsesUp {T E : Type 0} (node partition : ℕ) (result : Result T E) (old new : List PlacedFuse) : Type 0 where
+  pub opened : OnOk result (new ≡ without node partition old)
+  pub refused : OnErr result (new ≡ old)

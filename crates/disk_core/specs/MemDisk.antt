@@ -22,6 +22,10 @@ size_of disk = length disk.bytes.items
 abbrev pub pick_of : MemDisk → Pick
 pick_of disk = disk.pick
 
+-- the same disk with another pick
+abbrev pub with_pick : Pick → MemDisk → MemDisk
+with_pick pick disk = record disk { pick = pick }
+
 -- the numbers of the calls that fail
 abbrev pub listed_of : MemDisk → List ℕ
 listed_of disk = disk.failing.listed.items

@@ -12,7 +12,8 @@
 //!   joins a write and a sync.
 //! - The trait `Bays`: `open` hands a disk out, a new one of zeros where there is none, and `give_back` puts it home as it is.
 //! - `MemDisk` and `MemBays` lie in memory and tell their content; a `Pick` says what a stop leaves, and calls can be listed to
-//!   fail. `FuseDisk` and `FuseBays` pass some calls of another disk, and then fail until it is stopped.
+//!   fail. A `FuseDisk` passes some calls of another disk, and then fails until it is stopped. `FuseBays` hand out such disks, as
+//!   the fuse says that is placed for a node and a partition (`PlacedFuse`).
 //! - `FileDisk` and `FileBays` are files. One process at a time has a folder. A sync behind one that failed writes again what
 //!   wasn't synced. `last_fault` tells why a call failed.
 //!
@@ -24,14 +25,16 @@
 //!   write besides for want of memory, which changes nothing (`unlisted`).
 //! - Bays that tell hand out the disk that was put home, or a new one, and refuse another size or a disk that is out (`taken`,
 //!   `other_size`, `is_out`); where they refuse, nothing changes (`refused`).
+//! - A disk of `FuseBays` has at its first opening exactly the fuse and the pick that are placed for it, and no fuse where there is
+//!   none (`fuse`, `pick`, `used`).
 //! - Of a disk in a file, which tells nothing: its size stays, a failure raised the count and has a reason (`reason`). The range
 //!   that may not be synced takes in what is written (`dirty`), loses nothing before a sync that succeeds (`grows`), and is noted
 //!   as one to write again by a sync that fails (`dirty`), until one succeeds (`clean`).
 //!
 //! # Tested
 //!
-//! What each pick leaves; a call that is listed to fail; that the write which blows a fuse reaches the disk below; that a disk of
-//! each kind of bays, files among them, is found again as it was put home.
+//! What each pick leaves; a call that is listed to fail; that the write which blows a fuse reaches the disk below; that each disk
+//! fails as its own fuse says; that a disk of each kind of bays, files among them, is found again as it was put home.
 //!
 //! Over a file system in memory, which lists calls, fails them and loses at a power cut what wasn't synced: the calls of an
 //! opening, a write and a sync, in order; writes that take a part of their bytes; that each node and partition has a file of its
@@ -67,7 +70,7 @@ pub use disk::Disk;
 pub use file_bays::FileBays;
 pub use file_disk::FileDisk;
 pub use file_fault::FileFault;
-pub use fuse_bays::FuseBays;
+pub use fuse_bays::{FuseBays, PlacedFuse};
 pub use fuse_disk::{Fuse, FuseDisk};
 pub use host_file::Lockable;
 pub use mem_bays::MemBays;

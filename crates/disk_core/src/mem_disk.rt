@@ -28,7 +28,7 @@ pub struct MemDisk {
 }
 
 impl MemDisk {
-    ghost use Rattle.disk_core.specs.MemDisk.{calls_of, listed_of, pick_of, content_of, state_of};
+    ghost use Rattle.disk_core.specs.MemDisk.{calls_of, listed_of, pick_of, content_of, state_of, with_pick};
 
     /// A disk that holds these bytes, which are stable. The calls with these numbers fail, counted from 1 over its
     /// reads, writes and syncs. A stop leaves what the pick says.
@@ -49,6 +49,14 @@ impl MemDisk {
             pick,
             failing: Failing::new(fails),
         }
+    }
+
+    /// The same disk, of which a stop leaves what this pick says.
+    pub fn with_pick(mut self, pick: Pick) -> MemDisk
+        ensures { result ≡ with_pick pick self }
+    {
+        self.pick = pick;
+        self
     }
 
     // The past of its next state: it as it is, and what it was before.

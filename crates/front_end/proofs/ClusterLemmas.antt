@@ -8,7 +8,7 @@ use Rattle.router_core.specs.Fits.{RouterView}
 use Rattle.router_core.specs.Stands.{Stands}
 use Rattle.router_core.specs.Ties.{Ties}
 use Rattle.router_core.proofs.TieLaws.{tie_call, no_calls, items_none}
-use Rattle.world_model.specs.declared.moves.Move.{Move}
+use Rattle.world_model.specs.declared.offers.GivenMove.{GivenMove}
 use Rattle.world_model.specs.declared.order.Refusal.{Refusal}
 use Rattle.world_model.specs.declared.shape.Shape.{Shape}
 use Rattle.world_model.specs.declared.step.Called.{Called}
@@ -30,32 +30,32 @@ opened_tie router before now none opened stands =
     (subst (λ (o : Option (List Called)). Ties (Stands router) o []) (sym none) (no_calls (Stands router) stands))
 
 -- the moves that were given meanwhile are those that were made
-abbrev pub Went : Shape → List Move → List Move → List Called → Type 0
-Went shape given given' calls = (moves : List Move) × (given' ≡ given ++ moves) × IsPlayed shape moves calls
+abbrev pub Went : Shape → List GivenMove → List GivenMove → List Called → Type 0
+Went shape given given' calls = (moves : List GivenMove) × (given' ≡ given ++ moves) × IsPlayed shape moves calls
 
 -- from the cells that the disks are known to have stood for, what was told is a run
 abbrev pub RunsOnDisks : Disks → List Called → Type 0
 RunsOnDisks disks calls = (opening : Cells) → disks.opens calls opening → Run opening (told calls)
 
-pub ran_finished : (shape : Shape) (disks : Disks) (router : RouterView) (given given' : List Move) (calls : List Called) (status status' : ℕ) (o : Outside) → RunsAreSafe → router.shape ≡ shape → Went shape given given' calls → RunsOnDisks disks calls → disks.leaves calls
+pub ran_finished : (shape : Shape) (disks : Disks) (router : RouterView) (given given' : List GivenMove) (calls : List Called) (status status' : ℕ) (o : Outside) → RunsAreSafe → router.shape ≡ shape → Went shape given given' calls → RunsOnDisks disks calls → disks.leaves calls
     → status' ≡ status → HasFinished shape (ties_of router (Some calls)) status o → HasRun shape disks given given' status' o
 ran_finished shape disks router given given' calls status status' o safe same went run left is h =
     subst (λ (n : ℕ). HasRun shape disks given given' n o) (sym is)
     (inl (record { moves = went.0; gave = went.1; run = inl (finished_map _ _ _ status o (λ marks w. recorded shape disks.opens disks.leaves router went.0 calls marks safe same went.2 run left w) h) }))
 
-pub ran_stopped : (shape : Shape) (disks : Disks) (router : RouterView) (given given' : List Move) (calls : List Called) (status : ℕ) (o : Outside) → RunsAreSafe → router.shape ≡ shape → Went shape given given' calls → RunsOnDisks disks calls → disks.leaves calls
+pub ran_stopped : (shape : Shape) (disks : Disks) (router : RouterView) (given given' : List GivenMove) (calls : List Called) (status : ℕ) (o : Outside) → RunsAreSafe → router.shape ≡ shape → Went shape given given' calls → RunsOnDisks disks calls → disks.leaves calls
     → status ≡ 3 → HasStopped shape (ties_of router (Some calls)) o o.words_new → HasRun shape disks given given' status o
 ran_stopped shape disks router given given' calls status o safe same went run left is h =
     inl (record { moves = went.0; gave = went.1; run = inr (inl (is, stopped_map _ _ _ o o.words_new (λ marks w. recorded shape disks.opens disks.leaves router went.0 calls marks safe same went.2 run left w) h)) })
 
-pub ran_cut : (shape : Shape) (disks : Disks) (router : RouterView) (given given' : List Move) (calls : List Called) (status : ℕ) (o : Outside) → RunsAreSafe → router.shape ≡ shape → Went shape given given' calls → RunsOnDisks disks calls → disks.leaves calls
+pub ran_cut : (shape : Shape) (disks : Disks) (router : RouterView) (given given' : List GivenMove) (calls : List Called) (status : ℕ) (o : Outside) → RunsAreSafe → router.shape ≡ shape → Went shape given given' calls → RunsOnDisks disks calls → disks.leaves calls
     → status ≡ 4 → WasCutOff shape (ties_of router (Some calls)) o → HasRun shape disks given given' status o
 ran_cut shape disks router given given' calls status o safe same went run left is h =
     inl (record { moves = went.0; gave = went.1; run = inr (inr (is, cut_map _ _ _ o (λ marks w. recorded shape disks.opens disks.leaves router went.0 calls marks safe same went.2 run left w) h)) })
 
 -- What holds behind the calls of a network that began with nothing holds later, where further acts were done since.
-pub later : (leaves : List Called → Type 0) (given between given' : List Move) (begun now then : Network) (moves : List Move) (acts since : List Act) → begun ≡ nothing → between ≡ given ++ moves → PlaysBy acts given begun between now → PlaysBy since between now given' then
-    → leaves then.calls → LeavesLater leaves (moves ++ moves_of since) now.calls
+pub later : (leaves : List Called → Type 0) (given between given' : List GivenMove) (begun now then : Network) (moves : List GivenMove) (acts since : List Act) → begun ≡ nothing → between ≡ given ++ moves → PlaysBy acts given begun between now → PlaysBy since between now given' then
+    → leaves then.calls → LeavesLater leaves (moves ++ moves_of now since) now.calls
 later leaves given between given' begun now then moves acts since fresh gave before behind left =
     let all = plays_on given begun between now given' then false false (acts, (λ w. absurd cc), before) (since, (λ w. absurd cc), behind) in
     let more = acted_later now since in
@@ -64,12 +64,12 @@ later leaves given between given' begun now then moves acts since fresh gave bef
       since = more.0;
       acts = all.0;
       may = subst (λ n. AllMay n all.0) fresh all.2.may;
-      took = append_cancel_left given (moves ++ moves_of since) (moves_of all.0) (sym (append_assoc given moves (moves_of since)) ∙ ap (λ (l : List Move). l ++ moves_of since) (sym gave) ∙ sym behind.moves ∙ all.2.moves);
+      took = append_cancel_left given (moves ++ moves_of now since) (moves_of begun all.0) (sym (append_assoc given moves (moves_of now since)) ∙ ap (λ (l : List GivenMove). l ++ moves_of now since) (sym gave) ∙ sym behind.moves ∙ all.2.moves) ∙ ap (λ n. moves_of n all.0) fresh;
       told = sym calls ∙ ap (λ (n : Network). n.calls) all.2.network ∙ ap (λ n. (all_acted n all.0).calls) fresh;
       left = subst leaves calls left;
     }
 
-pub ran_starved : (shape : Shape) (disks : Disks) (router : RouterView) (given between given' : List Move) (begun now then : Network) (words : Option (ℕ → ℕ)) (status : ℕ) (o : Outside) → RunsAreSafe → router.shape ≡ shape → Went shape given between now.calls
+pub ran_starved : (shape : Shape) (disks : Disks) (router : RouterView) (given between given' : List GivenMove) (begun now then : Network) (words : Option (ℕ → ℕ)) (status : ℕ) (o : Outside) → RunsAreSafe → router.shape ≡ shape → Went shape given between now.calls
     → RunsOnDisks disks now.calls → begun ≡ nothing → Plays given begun between now true → Plays between now given' then false → disks.leaves then.calls → status ≡ 6 → HasStopped shape (ties_of router (Some now.calls)) o words → HasRun shape disks given given' status o
 ran_starved shape disks router given between given' begun now then words status o safe same went run fresh before behind left is h =
     let stays = later disks.leaves given between given' begun now then went.0 before.0 behind.0 fresh went.1 before.2 behind.2 left in
@@ -77,10 +77,10 @@ ran_starved shape disks router given between given' begun now then words status 
       is,
       record {
         moves = went.0;
-        since = moves_of behind.0;
-        gave = behind.2.moves ∙ ap (λ (l : List Move). l ++ moves_of behind.0) went.1 ∙ append_assoc given went.0 (moves_of behind.0);
+        since = moves_of now behind.0;
+        gave = behind.2.moves ∙ ap (λ (l : List GivenMove). l ++ moves_of now behind.0) went.1 ∙ append_assoc given went.0 (moves_of now behind.0);
         words = words;
-        stopped = stopped_map _ _ _ o words (λ marks w. recorded shape disks.opens (LeavesLater disks.leaves (went.0 ++ moves_of behind.0)) router went.0 now.calls marks safe same went.2 run stays w) h;
+        stopped = stopped_map _ _ _ o words (λ marks w. recorded shape disks.opens (LeavesLater disks.leaves (went.0 ++ moves_of now behind.0)) router went.0 now.calls marks safe same went.2 run stays w) h;
       },
     ))
 
@@ -88,7 +88,7 @@ ran_starved shape disks router given between given' begun now then words status 
 abbrev pub SpellsRefusal : Refusal → ℕ → Outside → Type 0
 SpellsRefusal refusal status o = ((status ≡ 9) × Wrote o.taken_old o.taken_new (λ wrote. wrote ≡ refusal_line refusal)) ⊎ (((status ≡ 4) × Wrote o.taken_old o.taken_new (IsFront (refusal_line refusal))) ⊎ ((status ≡ 6) × (o.taken_new ≡ o.taken_old)))
 
-pub turned_away : (shape : Shape) (disks : Disks) (given given' : List Move) (status : ℕ) (o : Outside) (refusal : Refusal) → o.left_new ≡ o.left_old → o.words_new ≡ o.words_old → given' ≡ given → disks.stay → disks.refuses refusal → SpellsRefusal refusal status o
+pub turned_away : (shape : Shape) (disks : Disks) (given given' : List GivenMove) (status : ℕ) (o : Outside) (refusal : Refusal) → o.left_new ≡ o.left_old → o.words_new ≡ o.words_old → given' ≡ given → disks.stay → disks.refuses refusal → SpellsRefusal refusal status o
     → HasRun shape disks given given' status o
 turned_away shape disks given given' status o refusal left words moves stay cause (inl told) =
     inr (inr (inr (record { source = left; random = words; moves = moves; stay = stay; refusal = refusal; cause = cause; answer = inl told })))

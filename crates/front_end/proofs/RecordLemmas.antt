@@ -7,7 +7,7 @@ use Rattle.router_core.specs.Stages.{simple_rules}
 use Rattle.router_core.specs.Stands.{Stands}
 use Rattle.router_core.specs.Ties.{IsWoven}
 use Rattle.world_model.specs.declared.history.HistoryMark.{HistoryMark}
-use Rattle.world_model.specs.declared.moves.Move.{Move}
+use Rattle.world_model.specs.declared.offers.GivenMove.{GivenMove}
 use Rattle.world_model.specs.declared.shape.Shape.{Shape}
 use Rattle.world_model.specs.declared.step.Called.{Called}
 use Rattle.world_model.specs.Record.{Record}
@@ -24,7 +24,7 @@ abbrev pub RunsAreSafe : Type 0
 RunsAreSafe = (rules : Rules) (opening : Cells) (record' : Record) → IsSound opening → DrawsNew opening record' → Run opening record' → IsKept rules record' → Safe rules opening record'
 
 -- what was told of calls, from the cells that the disks are known to have stood for, and what holds of the disks behind them
-pub recorded : (shape : Shape) (opens : List Called → Cells → Type 0) (leaves : List Called → Type 0) (router : RouterView) (moves : List Move) (calls : List Called) (marks : List HistoryMark) → RunsAreSafe → router.shape ≡ shape → IsPlayed shape moves calls
+pub recorded : (shape : Shape) (opens : List Called → Cells → Type 0) (leaves : List Called → Type 0) (router : RouterView) (moves : List GivenMove) (calls : List Called) (marks : List HistoryMark) → RunsAreSafe → router.shape ≡ shape → IsPlayed shape moves calls
     → ((opening : Cells) → opens calls opening → Run opening (told calls)) → leaves calls → IsWoven (Stands router) calls marks → IsRecorded shape opens leaves moves marks
 recorded shape opens leaves router moves calls marks safe same played run left w =
     let r = weave w.placed calls in

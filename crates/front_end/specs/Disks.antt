@@ -11,7 +11,7 @@ use Rattle.mem_fabric.specs.Network.{nothing}
 use Rattle.mem_fabric.specs.Packing.{AllPacked}
 use Rattle.mem_fabric.specs.Played.{Act, AllMay, all_acted, moves_of}
 use Rattle.mem_fabric.specs.Torn.{has_torn}
-use Rattle.world_model.specs.declared.moves.Move.{Move}
+use Rattle.world_model.specs.declared.offers.GivenMove.{GivenMove}
 use Rattle.world_model.specs.declared.order.Refusal.{Refusal}
 use Rattle.world_model.specs.declared.shape.Shape.{Shape}
 use Rattle.world_model.specs.declared.step.Called.{Called}
@@ -55,10 +55,10 @@ module _ {B D : Type 0} (bays_tell tells : Type 0) (content : D → Content) (si
       record { opens = Opens shape folder old; leaves = Leaves shape folder old new; stay = Stay shape folder old new; refuses = Refuses shape folder old }
 
 -- Further calls were told, by acts that took these moves from the beginning, of which some may have found no memory, and this holds behind them.
-pub record LeavesLater (leaves : List Called → Type 0) (moves : List Move) (calls : List Called) : Type 0 where
+pub record LeavesLater (leaves : List Called → Type 0) (moves : List GivenMove) (calls : List Called) : Type 0 where
   pub since : List Called
   pub acts : List Act
   pub may : AllMay nothing acts
-  pub took : moves ≡ moves_of acts
+  pub took : moves ≡ moves_of nothing acts
   pub told : since ++ calls ≡ (all_acted nothing acts).calls
   pub left : leaves (since ++ calls)

@@ -9,7 +9,7 @@ use Rattle.router_core.specs.Removals.{DeletesWhatFailed}
 use Rattle.router_core.specs.Stages.{simple_rules}
 use Rattle.router_core.specs.Ties.{IsWoven}
 use Rattle.world_model.specs.declared.history.HistoryMark.{HistoryMark}
-use Rattle.world_model.specs.declared.moves.Move.{Move}
+use Rattle.world_model.specs.declared.offers.GivenMove.{GivenMove}
 use Rattle.world_model.specs.declared.order.Refusal.{Refusal}
 use Rattle.world_model.specs.declared.shape.Shape.{Shape}
 use Rattle.world_model.specs.declared.step.Called.{Called}
@@ -146,10 +146,10 @@ abbrev pub RequestsEndInTime : Shape → Record → Type 0
 RequestsEndInTime shape record' = (a : Asked) → Has (Notes.asked record') a → IsSome (replica_of shape a.partition a.node) → is_open (ends shape record') a ≡ true → events_in record' < a.events + 65536
 
 -- What is told of a run by its moves and marks: a record of the network's steps and events and of a session's items, woven. The steps are those of an
--- opening, of sends, of orders, of events that waited, and of just these moves, in order and by the rule of moves; a router kept its rules. Where the
+-- opening, of sends, of orders, of events that waited, and of just these moves, each picked from what was there, in order and by the rule of moves; a router kept its rules. Where the
 -- disks stood for known cells, the steps are allowed from these, and where no drawn id is named there or was drawn before, the record is safe. No request
 -- to a replica stays open for 65,536 events. Of each operation that ended, and not as a put that is ok, each replica was asked to delete what it drew.
-pub record IsRecorded (shape : Shape) (opens : List Called → Cells → Type 0) (leaves : List Called → Type 0) (moves : List Move) (marks : List HistoryMark) : Type 0 where
+pub record IsRecorded (shape : Shape) (opens : List Called → Cells → Type 0) (leaves : List Called → Type 0) (moves : List GivenMove) (marks : List HistoryMark) : Type 0 where
   pub calls : List Called
   pub played : IsPlayed shape moves calls
   pub record' : Record
@@ -168,8 +168,8 @@ pub record IsUntouched (o : Outside) : Type 0 where
   pub random : o.words_new ≡ o.words_old
 
 -- The run came to the end of its script, or it stopped because the input failed, or the output did. Each move that was given was made.
-pub record HasPlayed (shape : Shape) (disks : Disks) (given given' : List Move) (status : ℕ) (o : Outside) : Type 0 where
-  pub moves : List Move
+pub record HasPlayed (shape : Shape) (disks : Disks) (given given' : List GivenMove) (status : ℕ) (o : Outside) : Type 0 where
+  pub moves : List GivenMove
   pub gave : given' ≡ given ++ moves
   pub run : HasFinished shape (IsRecorded shape disks.opens disks.leaves moves) status o
       ⊎ ((status ≡ 3) × HasStopped shape (IsRecorded shape disks.opens disks.leaves moves) o o.words_new)
@@ -177,22 +177,22 @@ pub record HasPlayed (shape : Shape) (disks : Disks) (given given' : List Move) 
 
 -- The run stopped for want of memory: what stands is of the lines before, and moves may have been given since, and calls told. The line that was
 -- refused memory may have taken random words.
-pub record HasStarved (shape : Shape) (disks : Disks) (given given' : List Move) (o : Outside) : Type 0 where
-  pub moves : List Move
-  pub since : List Move
+pub record HasStarved (shape : Shape) (disks : Disks) (given given' : List GivenMove) (o : Outside) : Type 0 where
+  pub moves : List GivenMove
+  pub since : List GivenMove
   pub gave : given' ≡ given ++ (moves ++ since)
   pub words : Option (ℕ → ℕ)
   pub stopped : HasStopped shape (IsRecorded shape disks.opens (LeavesLater disks.leaves (moves ++ since)) moves) o words
 
 -- No disks were opened, and what they hold stays: the outside failed, or there was no memory. Nothing was read, drawn, written or moved.
-pub record WasUnopened (disks : Disks) (given given' : List Move) (o : Outside) : Type 0 where
+pub record WasUnopened (disks : Disks) (given given' : List GivenMove) (o : Outside) : Type 0 where
   pub untouched : IsUntouched o
   pub moves : given' ≡ given
   pub stay : disks.stay
 
 -- A disk was refused, and what the disks hold stays: nothing was read, drawn or moved, and the line that says which one it is, and why, was
 -- written, or a front of it where the output failed.
-pub record WasTurnedAway (disks : Disks) (status : ℕ) (given given' : List Move) (o : Outside) : Type 0 where
+pub record WasTurnedAway (disks : Disks) (status : ℕ) (given given' : List GivenMove) (o : Outside) : Type 0 where
   pub source : o.left_new ≡ o.left_old
   pub random : o.words_new ≡ o.words_old
   pub moves : given' ≡ given
@@ -203,7 +203,7 @@ pub record WasTurnedAway (disks : Disks) (status : ℕ) (given given' : List Mov
 
 -- What a run may leave on a cluster of this shape: it came to its end or stopped, or was refused memory at a line, or before all lines its disks
 -- weren't opened.
-abbrev pub HasRun : Shape → Disks → List Move → List Move → ℕ → Outside → Type 0
+abbrev pub HasRun : Shape → Disks → List GivenMove → List GivenMove → ℕ → Outside → Type 0
 HasRun shape disks given given' status o =
     HasPlayed shape disks given given' status o
     ⊎ ((status ≡ 6) × HasStarved shape disks given given' o)
@@ -211,7 +211,7 @@ HasRun shape disks given given' status o =
     ⊎ WasTurnedAway disks status given given' o
 
 -- Words outside the grammar: nothing was read, drawn or moved, and the line that says so was written, or a front of it where the output failed.
-pub record WasRefused (status : ℕ) (given given' : List Move) (o : Outside) : Type 0 where
+pub record WasRefused (status : ℕ) (given given' : List GivenMove) (o : Outside) : Type 0 where
   pub source : o.left_new ≡ o.left_old
   pub random : o.words_new ≡ o.words_old
   pub moves : given' ≡ given

@@ -22,8 +22,8 @@
 //!   an operation is begun with what its line means, and ids are those of the random words, in order. 0 and 2 come only where
 //!   the input was read to its end or to `end`, 2 exactly where a line was bad, 8 exactly where more than 67,108,864 bytes were
 //!   read.
-//! - Behind the history stands such a record: the moves are exactly those that the schedule gave, each made once (`IsPlayed`),
-//!   the router kept its rules (`IsKept`), no request is open behind 65,536 events (`in_time`), and where a put ended otherwise
+//! - Behind the history stands such a record: the moves are exactly those that the schedule gave, each made once and picked
+//!   from what was there (`IsPlayed`), the router kept its rules (`IsKept`), no request is open behind 65,536 events (`in_time`), and where a put ended otherwise
 //!   than ok each replica was asked to delete its id, or the network refused (`deletes`).
 //! - Where the disks told what they held, none failed in a request, they held one blob at most under each id and none under a
 //!   drawn one, and no id was drawn twice, the record is safe (`Safe`): a get that ends ok gives the bytes that were put

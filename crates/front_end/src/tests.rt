@@ -5,7 +5,7 @@ ghost use Rattle.msg_format.specs.Records.{IsRecord};
 
 use super::*;
 use blob_id::{Blob, BlobId, Bytes, Kind, Memory, Words};
-use disk_core::{Bays, Disk, FileBays, FuseBays, MemBays, Pick, write_synced};
+use disk_core::{Bays, Disk, FileBays, FuseBays, MemBays, Pick, PlacedFuse, write_synced};
 use msg_format::{Record, encode};
 use outside::{BytesSink, BytesSource, CountRandom, FailRandom, Random};
 use std::alloc::Global;
@@ -562,23 +562,47 @@ fn a_disk_of_other_numbers_is_refused(rt: HostRuntime) -> Result<(), Fail> {
     Ok(())
 }
 
-/// The same bays, of which the disk of node 1 and partition 0 passes so many calls, and then fails until it is stopped.
-fn fused_bays(alloc: Global, passes: u64) -> FuseBays {
-    let bays = MemBays::new(alloc, Pick::Drop, Vec::new(alloc));
-    FuseBays::new(bays, 1, 0, passes)
+/// Bays in memory whose disks of these nodes and partition 0 pass so many calls, and then fail until they are stopped.
+fn fused_bays(alloc: Global, passed: &[(u32, u64)]) -> Result<FuseBays, Fail> {
+    let mut fuses = Vec::new(alloc);
+    for (node, passes) in passed {
+        fuses.push(PlacedFuse {
+            node: *node,
+            partition: 0,
+            passes: *passes,
+            pick: Pick::Drop,
+        })?;
+    }
+    Ok(FuseBays::new(new_bays(alloc, Vec::new(alloc)), fuses))
 }
 
+/// Scripts that begin with a put over disks that fail: words, how many calls the disk of a node passes, and what is written behind
+/// the put's first lines. An opening takes 11 calls, and a put 4.
+const FAILING: [(&[&str], &[(u32, u64)], &[u8], &[u8]); 2] = [
+    (
+        &["run", "--nodes=1", "--partitions=1"],
+        &[(1, 11)],
+        b"put a hex 61\nput b hex 62\nwait\nstop 1\nrestart 1\nput c hex 63\nwait\n",
+        b"a unavailable 0100000000000000000040008000000000000000 1:fault\nb begun\nb drew 0100000000000000000040008000000000000001\nb unavailable 0100000000000000000040008000000000000001 1:down\nstop 1 ok\nrestart 1 ok\nc begun\nc drew 0100000000000000000040008000000000000002\nc ok 0100000000000000000040008000000000000002\n",
+    ),
+    // One disk fails in the first put, and another one in the second.
+    (
+        &["run", "--nodes=3", "--partitions=1"],
+        &[(1, 11), (2, 15)],
+        b"put a hex 61\nput b hex 62\nwait\nstop 1\nrestart 1\nput c hex 63\nwait\n",
+        b"a ok 0100000000000000000040008000000000000000\nb begun\nb drew 0100000000000000000040008000000000000001\nb unavailable 0100000000000000000040008000000000000001 1:down 2:fault\nstop 1 ok\nrestart 1 ok\nc begun\nc drew 0100000000000000000040008000000000000002\nc ok 0100000000000000000040008000000000000002\n",
+    ),
+];
+
 #[test]
-fn a_disk_that_fails_is_down_until_it_is_opened_again(rt: HostRuntime) -> Result<(), Fail> {
+fn disks_that_fail_are_down_until_they_are_opened_again(rt: HostRuntime) -> Result<(), Fail> {
     let alloc = rt.alloc();
-    let mut bays = fused_bays(alloc, 11);
-    let script = b"put a hex 61\nput b hex 62\nwait\nstop 1\nrestart 1\nput c hex 63\nwait\n";
-    let words = ["run", "--nodes=1", "--partitions=1"];
-    let (status, output) = run_over(alloc, &words, script, &mut bays, Vec::new(alloc))?;
-    assert_eq!(rt; status, 0);
-    let rest =
-        b"a unavailable 0100000000000000000040008000000000000000 1:fault\nb begun\nb drew 0100000000000000000040008000000000000001\nb unavailable 0100000000000000000040008000000000000001 1:down\nstop 1 ok\nrestart 1 ok\nc begun\nc drew 0100000000000000000040008000000000000002\nc ok 0100000000000000000040008000000000000002\n";
-    assert!(rt; is_begun_and(output.bytes(), rest));
+    for (words, passed, script, rest) in FAILING {
+        let mut bays = fused_bays(alloc, passed)?;
+        let (status, output) = run_over(alloc, words, script, &mut bays, Vec::new(alloc))?;
+        assert_eq!(rt; status, 0);
+        assert!(rt; is_begun_and(output.bytes(), rest));
+    }
     Ok(())
 }
 

@@ -1,14 +1,17 @@
 -- What a call does, as acts, and what acts from the beginning say of the calls told.
 use Rattle.std.proofs.Common.{◌≡◌, ℕ, suc, ◌==◌, Bool, true, false, ◌&&◌, ◌||◌, not, cond, List, [], ◌∷◌, ◌++◌, length, Option, Some, None, Result, Ok, Err, refl, sym, ap, ◌∙◌, subst, append-nil, append_assoc}
+use Rattle.std.proofs.lemmas.List.{length-map}
 use Rattle.std.specs.Prelude.{IsSome, OnErr}
 use Rattle.std.specs.Result.{is_ok}
 use Rattle.blob_id.specs.declared.memory.Memory.{Memory}
 use Rattle.mem_fabric.specs.Network.{Network, nothing, is_stopped, after_open, after_steps, after_send, after_sent, after_order, MayRestart, MayBeTold, after_given, IsOldest, Does, Obeys}
+use Rattle.mem_fabric.specs.Offers.{nodes_in, partitions_in, picked_in}
 use Rattle.mem_fabric.specs.Past.{calls_of, order_steps}
 use Rattle.mem_fabric.specs.Played.{Act, Opens, Sends, Orders, Gives, Moves, Fails, acted, all_acted, MayAct, AllMay, moves_of, order_in, orders_of, Plays, AtMostOne, IsPlayed}
 use Rattle.mem_fabric.specs.PlayedLaws.{plays_on}
-use Rattle.mem_fabric.specs.Sound.{State, AllShow, IsSound, fresh_state, network_of, told_world}
+use Rattle.mem_fabric.specs.Sound.{State, AllShow, IsSound, asked_number, fresh_state, network_of, replied_number, told_world}
 use Rattle.world_model.specs.declared.moves.Move.{Move}
+use Rattle.world_model.specs.declared.offers.GivenMove.{GivenMove}
 use Rattle.world_model.specs.declared.order.Order.{Order}
 use Rattle.world_model.specs.declared.order.PullCause.{PullCause}
 use Rattle.world_model.specs.declared.order.Told.{Told}
@@ -18,23 +21,24 @@ use Rattle.world_model.specs.declared.step.Did.{Did}
 use Rattle.world_model.specs.declared.step.Event.{Event}
 use Rattle.world_model.specs.declared.step.Step.{Step}
 use Rattle.world_model.specs.Fabric.{HasNode, Awaits, TakesOrder, TellsOrder}
+use Rattle.world_model.specs.Offers.{given_move}
 use Rattle.world_model.specs.Orders.{is_stopped as is_stopped_by, ComesTo}
 use Rattle.world_model.specs.Record.{Marked, Drawn, Aimed, Took, Given, Withheld, Decided, Record}
 use Rattle.world_model.specs.Told.{orders_told, told, AllNetwork}
 use Rattle.world_model.specs.World.{Made, nothing_held, world}
 
 -- nothing was done
-pub plays_none : (given given' : List Move) (s s' : State) (whole : Bool) → given' ≡ given → s' ≡ s → Plays given (network_of s) given' (network_of s') whole
+pub plays_none : (given given' : List GivenMove) (s s' : State) (whole : Bool) → given' ≡ given → s' ≡ s → Plays given (network_of s) given' (network_of s') whole
 plays_none given given' s s' whole none same = ([], (λ w. tt), record { moves = none ∙ sym (append-nil given); may = tt; network = ap network_of same })
 
-pub plays_open : (given : List Move) (s s' : State) (shape : Shape) → s ≡ fresh_state → network_of s' ≡ after_open (network_of s) shape → Plays given (network_of s) given (network_of s') true
+pub plays_open : (given : List GivenMove) (s s' : State) (shape : Shape) → s ≡ fresh_state → network_of s' ≡ after_open (network_of s) shape → Plays given (network_of s) given (network_of s') true
 plays_open given s s' shape fresh e = (Opens shape ∷ [], (λ w. tt), record { moves = sym (append-nil given); may = (tt, ap network_of fresh); network = e })
 
 pub has_node : (opened : Bool) (shape : Option Shape) (node : ℕ) → HasNode (cond opened shape None) node → HasNode shape node
 has_node true shape node h = h
 has_node false shape node h = absurd h
 
-pub plays_send : (given : List Move) (n n' : Network) (node : ℕ) (frame : List ℕ) → HasNode n.shape node → n' ≡ after_send n node frame → Plays given n given n' true
+pub plays_send : (given : List GivenMove) (n n' : Network) (node : ℕ) (frame : List ℕ) → HasNode n.shape node → n' ≡ after_send n node frame → Plays given n given n' true
 plays_send given n n' node frame has e = (Sends node frame ∷ [], (λ w. tt), record { moves = sym (append-nil given); may = (tt, has); network = e })
 
 pub has_shape : (opened : Bool) (shape : Option Shape) → IsSome (cond opened shape None) → IsSome shape
@@ -49,7 +53,7 @@ has_order false shape (Order.Pull a b p) h = absurd h
 has_order false shape (Order.Compact a p) h = absurd h
 has_order false shape (Order.Level p a b) h = absurd h
 
-pub plays_order : (given : List Move) (n n' : Network) (order : Order) (answer : Told) → TakesOrder n.shape order → Obeys n order answer n' → Plays given n given n' true
+pub plays_order : (given : List GivenMove) (n n' : Network) (order : Order) (answer : Told) → TakesOrder n.shape order → Obeys n order answer n' → Plays given n given n' true
 plays_order given n n' order answer takes obeys =
     (Orders order answer ∷ [], (λ w. tt), record { moves = sym (append-nil given); may = (tt, (takes, obeys.may)); network = obeys.network })
 
@@ -115,18 +119,32 @@ tells_order s s' order answer obeys =
 
 -- ---- events that waited, and moves
 
-pub plays_given : (given : List Move) (n n' : Network) (event : Event) → IsOldest n.queue event → n' ≡ after_given n event → Plays given n given n' true
+pub plays_given : (given : List GivenMove) (n n' : Network) (event : Event) → IsOldest n.queue event → n' ≡ after_given n event → Plays given n given n' true
 plays_given given n n' event oldest e = (Gives event ∷ [], (λ w. tt), record { moves = sym (append-nil given); may = (tt, oldest); network = e })
 
-pub plays_next : (given given' : List Move) (n n' : Network) (chosen : Move) (result : Result Event Memory) → IsSome n.shape → n.queue ≡ [] → Does n chosen n' result → given' ≡ given ++ chosen ∷ [] → Plays given n given' n' (is_ok result)
+-- what a schedule is asked is what is there
+picked_there : (s : State) (shape : Shape) (requests replies : ℕ) (chosen : Move) → s.shape ≡ Some shape → requests ≡ length s.requests → replies ≡ length s.replies
+    → given_move shape.nodes shape.partitions requests replies chosen ≡ picked_in (network_of s) chosen
+picked_there s shape requests replies chosen shaped sent made =
+    let here : Option Shape → ℕ → ℕ → GivenMove = λ found a b. given_move (nodes_in found) (partitions_in found) a b chosen in
+    ap (λ found. here found requests replies) (sym shaped)
+    ∙ ap (λ k. here s.shape k replies) (sent ∙ sym (length-map s.requests asked_number))
+    ∙ ap (λ k. here s.shape (length (network_of s).requests) k) (made ∙ sym (length-map s.replies replied_number))
+
+pub given_there : (given between given' : List GivenMove) (s : State) (shape : Shape) (requests replies : ℕ) (chosen : Move) → given' ≡ between ++ given_move shape.nodes shape.partitions requests replies chosen ∷ [] → between ≡ given
+    → s.shape ≡ Some shape → requests ≡ length s.requests → replies ≡ length s.replies → given' ≡ given ++ picked_in (network_of s) chosen ∷ []
+given_there given between given' s shape requests replies chosen gave stays shaped sent made =
+    gave ∙ ap (λ l. l ++ given_move shape.nodes shape.partitions requests replies chosen ∷ []) stays ∙ ap (λ m. given ++ m ∷ []) (picked_there s shape requests replies chosen shaped sent made)
+
+pub plays_next : (given given' : List GivenMove) (n n' : Network) (chosen : Move) (result : Result Event Memory) → IsSome n.shape → n.queue ≡ [] → Does n chosen n' result → given' ≡ given ++ picked_in n chosen ∷ [] → Plays given n given' n' (is_ok result)
 plays_next given given' n n' chosen (Ok event) some calm m e = (Moves chosen m.reply m.opened ∷ [], (λ w. tt), record { moves = e; may = (tt, (some, calm, m.may)); network = m.network })
 plays_next given given' n n' chosen (Err memory) some calm m e = (Fails (Some chosen) ∷ [], (λ w. absurd cc), record { moves = e; may = (tt, tt); network = m })
 
-pub most_next : (given given' : List Move) (chosen : Move) (result : Result Event Memory) → given' ≡ given ++ chosen ∷ [] → OnErr result (AtMostOne given given')
-most_next given given' chosen (Ok event) e = tt
-most_next given given' chosen (Err memory) e = (Some chosen, e)
+pub most_next : (given given' : List GivenMove) (n : Network) (chosen : Move) (result : Result Event Memory) → given' ≡ given ++ picked_in n chosen ∷ [] → OnErr result (AtMostOne given given')
+most_next given given' n chosen (Ok event) e = tt
+most_next given given' n chosen (Err memory) e = (Some (picked_in n chosen), e)
 
-pub most_none : (given given' : List Move) → given' ≡ given → AtMostOne given given'
+pub most_none : (given given' : List GivenMove) → given' ≡ given → AtMostOne given given'
 most_none given given' e = (None, e ∙ sym (append-nil given))
 
 -- what waits in the world is queued
@@ -186,9 +204,9 @@ opened_shape true shape found e = e
 opened_shape false shape found e = absurd cc
 
 -- what was opened for a shape and went on was played for it, with the moves that were given
-pub played : (a b c : List Move) (s t u : State) (opened : Bool) (shape : Shape) (calls : List Called) → s ≡ fresh_state
+pub played : (a b c : List GivenMove) (s t u : State) (opened : Bool) (shape : Shape) (calls : List Called) → s ≡ fresh_state
     → Plays a (network_of s) b (network_of t) true → cond opened t.shape None ≡ Some shape → Plays b (network_of t) c (network_of u) true → Some (calls_of u.past) ≡ Some calls → (T K : Type 0) → T → K
-    → (moves : List Move) × (c ≡ a ++ moves) × IsPlayed shape moves calls × T × K
+    → (moves : List GivenMove) × (c ≡ a ++ moves) × IsPlayed shape moves calls × T × K
 played a b c s t u opened shape calls fresh p opening q told_is T K seeds bays =
     let whole : Plays a (network_of s) c (network_of u) true = plays_on a (network_of s) b (network_of t) c (network_of u) true true p q in
     let from : network_of s ≡ nothing = ap network_of fresh in
@@ -197,8 +215,8 @@ played a b c s t u opened shape calls fresh p opening q told_is T K seeds bays =
     let later : (network_of u).shape ≡ Some shape =
     ap (λ (n : Network). n.shape) q.2.network ∙ keeps_shape_all (network_of t) q.0 shape q.2.may (opened_shape opened t.shape shape opening) in
     let same : calls ≡ calls_of u.past = cc in (
-      moves_of whole.0,
-      whole.2.moves,
+      moves_of nothing whole.0,
+      whole.2.moves ∙ ap (λ (n : Network). a ++ moves_of n whole.0) from,
       record {
         acts = whole.0;
         did = whole.1 refl;

@@ -8,10 +8,10 @@ use Rattle.mem_fabric.specs.Packing.{KeepsPacking}
 use Rattle.mem_fabric.specs.Past.{calls_of}
 use Rattle.mem_fabric.specs.Played.{Plays}
 use Rattle.mem_fabric.specs.Sound.{State, network_of}
-use Rattle.world_model.specs.declared.moves.Move.{Move}
+use Rattle.world_model.specs.declared.offers.GivenMove.{GivenMove}
 
 -- Whether bays and disks tell, and what bays, disks and moves tell.
-module _ {B D M : Type 0} (bays_tell disks_tell : Type 0) (content : D → Content) (home : B → Home D) (out : B → Out) (same_bays : B → B → Type 0) (given : M → List Move) (seeds : M → List ℕ) (same_moves : M → M → Type 0) where
+module _ {B D M : Type 0} (bays_tell disks_tell : Type 0) (content : D → Content) (home : B → Home D) (out : B → Out) (same_bays : B → B → Type 0) (given : M → List GivenMove) (seeds : M → List ℕ) (same_moves : M → M → Type 0) where
   -- The moves that were given meanwhile were played, the schedule is the same and wasn't begun anew, the bays are the same, and what was
   -- packed still is.
   pub record PlaysOver (moves : M) (s : State) (nodes : NodesState B D) (moves' : M) (s' : State) (nodes' : NodesState B D) (whole : Bool) : Type 0 where

@@ -9,9 +9,9 @@ use Rattle.mem_fabric.specs.GoingLaws.{bays_stay, bays_on, packing_stays, packin
 use Rattle.mem_fabric.specs.Past.{calls_of}
 use Rattle.mem_fabric.specs.PlayedLaws.{plays_nothing, plays_on, plays_anyhow}
 use Rattle.mem_fabric.specs.Sound.{State, network_of}
-use Rattle.world_model.specs.declared.moves.Move.{Move}
+use Rattle.world_model.specs.declared.offers.GivenMove.{GivenMove}
 
-module _ {B D M : Type 0} (bays_tell disks_tell : Type 0) (content : D → Content) (home : B → Home D) (out : B → Out) (same_bays : B → B → Type 0) (given : M → List Move) (seeds : M → List ℕ) (same_moves : M → M → Type 0) where
+module _ {B D M : Type 0} (bays_tell disks_tell : Type 0) (content : D → Content) (home : B → Home D) (out : B → Out) (same_bays : B → B → Type 0) (given : M → List GivenMove) (seeds : M → List ℕ) (same_moves : M → M → Type 0) where
   abbrev Over : M → State → NodesState B D → M → State → NodesState B D → Bool → Type 0
   Over = PlaysOver bays_tell disks_tell content home out same_bays given seeds same_moves
 

@@ -1,4 +1,5 @@
 pub mod Network
+pub mod Offers
 pub mod Played
 pub mod Past
 pub mod Asking

@@ -1,5 +1,5 @@
 -- What is done to the network of the nodes, act by act, and which moves that takes.
-use Rattle.std.specs.Prelude.{◌≡◌, ℕ, Bool, true, List, [], ◌∷◌, ◌++◌, Option, Some, None, IsSome}
+use Rattle.std.specs.Prelude.{◌≡◌, ℕ, Bool, true, List, [], ◌∷◌, ◌++◌, Option, Some, None, IsSome, option_map}
 use Rattle.cell_model.specs.declared.ask.Reply.{Reply}
 use Rattle.world_model.specs.declared.moves.Move.{Move}
 use Rattle.world_model.specs.declared.order.Order.{Order}
@@ -9,6 +9,8 @@ use Rattle.world_model.specs.declared.step.Called.{Called}
 use Rattle.world_model.specs.declared.step.Event.{Event}
 use Rattle.world_model.specs.Fabric.{HasNode, TakesOrder}
 use Rattle.world_model.specs.Told.{OrderAnswer, orders_told}
+use Rattle.world_model.specs.declared.offers.GivenMove.{GivenMove}
+use Rattle.mem_fabric.specs.Offers.{picked_in}
 use Rattle.mem_fabric.specs.Network.{Network, nothing, moved, runs, MayGive, after_open, after_send, after_move, MayBeTold, after_order, IsOldest, after_given}
 
 -- One call on a network. A move that runs a request has its reply with it, and one that restarts a node whether its disks were opened. A call that found no memory did nothing, though it may have
@@ -52,18 +54,19 @@ list_of None = []
 list_of (Some x) = x ∷ []
 
 -- one more move was given at most
-abbrev pub AtMostOne : List Move → List Move → Type 0
-AtMostOne given given' = (chosen : Option Move) × (given' ≡ given ++ list_of chosen)
+abbrev pub AtMostOne : List GivenMove → List GivenMove → Type 0
+AtMostOne given given' = (chosen : Option GivenMove) × (given' ≡ given ++ list_of chosen)
 
-abbrev pub move_in : Act → List Move
-move_in (Moves chosen reply opened) = chosen ∷ []
-move_in (Fails chosen) = list_of chosen
-move_in _ = []
+-- the move that an act takes, picked from what is there
+abbrev pub move_in : Network → Act → List GivenMove
+move_in n (Moves chosen reply opened) = picked_in n chosen ∷ []
+move_in n (Fails chosen) = list_of (option_map (picked_in n) chosen)
+move_in n _ = []
 
--- the moves that acts took, in order
-abbrev pub moves_of : List Act → List Move
-moves_of [] = []
-moves_of (act ∷ before) = moves_of before ++ move_in act
+-- the moves that acts take, in order, each picked from what is there behind the acts before it
+abbrev pub moves_of : Network → List Act → List GivenMove
+moves_of n [] = []
+moves_of n (act ∷ before) = moves_of n before ++ move_in (all_acted n before) act
 
 abbrev pub DidAll : List Act → Type 0
 DidAll [] = Unit {0}
@@ -71,13 +74,13 @@ DidAll (Fails chosen ∷ before) = ⊥
 DidAll (act ∷ before) = DidAll before
 
 -- by these acts, which took the moves that were given meanwhile, one network became the other
-pub record PlaysBy (acts : List Act) (given : List Move) (n : Network) (given' : List Move) (n' : Network) : Type 0 where
-  pub moves : given' ≡ given ++ moves_of acts
+pub record PlaysBy (acts : List Act) (given : List GivenMove) (n : Network) (given' : List GivenMove) (n' : Network) : Type 0 where
+  pub moves : given' ≡ given ++ moves_of n acts
   pub may : AllMay n acts
   pub network : n' ≡ all_acted n acts
 
--- Each move that was given was made, once and in order. Where the calls weren't whole, some may have found no memory and done nothing.
-abbrev pub Plays : List Move → Network → List Move → Network → (whole : Bool) → Type 0
+-- Each move that was given was picked from what was there, and made, once and in order. Where the calls weren't whole, some may have found no memory and done nothing.
+abbrev pub Plays : List GivenMove → Network → List GivenMove → Network → (whole : Bool) → Type 0
 Plays given n given' n' whole = (acts : List Act) × (whole ≡ true → DidAll acts) × PlaysBy acts given n given' n'
 
 -- the order that an act carries out
@@ -90,13 +93,13 @@ abbrev pub orders_of : List Act → List OrderAnswer
 orders_of [] = []
 orders_of (act ∷ before) = order_in act ++ orders_of before
 
--- The calls told are those of one opening for the shape, of sends, of orders, of events that waited, and of just these moves, in order and by
--- the rule of moves. The orders are those that the calls tell, each once and in order.
-pub record IsPlayed (shape : Shape) (moves : List Move) (calls : List Called) : Type 0 where
+-- The calls told are those of one opening for the shape, of sends, of orders, of events that waited, and of just these moves, each picked from
+-- what was there, in order and by the rule of moves. The orders are those that the calls tell, each once and in order.
+pub record IsPlayed (shape : Shape) (moves : List GivenMove) (calls : List Called) : Type 0 where
   pub acts : List Act
   pub did : DidAll acts
   pub may : AllMay nothing acts
-  pub took : moves ≡ moves_of acts
+  pub took : moves ≡ moves_of nothing acts
   pub opened : (all_acted nothing acts).shape ≡ Some shape
   pub told : calls ≡ (all_acted nothing acts).calls
   pub ordered : orders_told calls ≡ orders_of acts

@@ -27,6 +27,7 @@
 //! - Every call keeps what was said of the run, says which moves were made, also where memory runs out, and that the bays are the
 //!   same (`net`: `PlaysOver`; `run` where it opens or closes). Each refusal, each opening that failed, and nothing else, raises
 //!   the count of faults (`count`).
+//! - The schedule is asked with the numbers of the shape and with what is in flight, for each move anew (`moves_of`).
 //! - The calls told are those of one opening, of sends, of orders, of events that waited, and of just the moves that the
 //!   schedule gave (`what_is_told_was_played`).
 //!
@@ -36,8 +37,7 @@
 //!
 //! # Not proved
 //!
-//! With which numbers the schedule is asked for a move. Why a restart is refused, and by which disk; that `Stuck(Fault)` has
-//! its cause in the node's own disks. Once a disk failed in a request, anything of any replica. That want of memory is answered
+//! Why a restart is refused, and by which disk; that `Stuck(Fault)` has its cause in the node's own disks. Once a disk failed in a request, anything of any replica. That want of memory is answered
 //! only where an allocation is refused or a count, of requests, replies or waiting events, reaches 2^32 - 1. No node pulls or
 //! compacts yet.
 #![tactic(auto)]

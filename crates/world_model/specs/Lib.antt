@@ -7,6 +7,7 @@ pub mod Rules
 pub mod Pieces
 pub mod World
 pub mod Notes
+pub mod Offers
 pub mod Local
 pub mod Outcomes
 pub mod Router

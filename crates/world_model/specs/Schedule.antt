@@ -1,6 +1,7 @@
 -- Which moves a schedule picks.
 use Rattle.std.specs.Prelude.{ℕ, ◌+◌, ◌*◌, ◌/◌, ◌%◌, ◌^◌, nat_lt, Bool, cond, List, length, slice_index_or}
 use Rattle.world_model.specs.declared.moves.Move.{Move}
+use Rattle.world_model.specs.declared.offers.GivenMove.{GivenMove}
 use Rattle.world_model.specs.declared.moves.Move.TheVariants.{Run, RunAgain, Drop, Hand, HandAgain, DropReply, Tick, Cut, Pull}
 
 -- the plain schedule: the oldest reply is handed, else the oldest request is run, else the clock goes on
@@ -35,11 +36,11 @@ move_of a v nodes partitions =
 abbrev pub seeded_move : (x nodes partitions : ℕ) → Move
 seeded_move x nodes partitions = move_of (number_in (next_state x) % 100) (number_in (next_state (next_state x))) nodes partitions
 
--- a seeded schedule: plain with seed 0, or in a state; the moves given; how many more it has room for; and the seeds that it was begun with
+-- a seeded schedule: plain with seed 0, or in a state; the moves given, each with what it was picked from; how many more it has room for; and the seeds that it was begun with
 pub record Schedule : Type 0 where
   pub plain : Bool
   pub state : ℕ
-  pub given : List Move
+  pub given : List GivenMove
   pub room : ℕ
   pub seeds : List ℕ
 

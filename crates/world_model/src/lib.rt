@@ -19,8 +19,8 @@
 //!   record is safe (`runs_are_safe`): a get that ends ok gives what was put; what was deleted isn't got again where the
 //!   quorums overlap; a get behind a put's ok doesn't end `notfound` where they do; `deleted` has a reason; each end follows
 //!   from the notes; what was acknowledged is kept by enough replicas.
-//! - `ListMoves` and `SeedMoves` pick exactly the move that is defined, and tell the moves given and the seeds begun with
-//!   (`pick`, `start`).
+//! - `ListMoves` and `SeedMoves` pick exactly the move that is defined, and tell the moves given, each with what it was picked
+//!   from, and the seeds begun with (`pick`, `start`).
 //!
 //! # Tested
 //!
@@ -37,6 +37,7 @@ mod fabric;
 mod history;
 mod laws;
 mod moves;
+mod offers;
 mod order;
 mod schedules;
 mod seeds;
@@ -48,6 +49,7 @@ pub use fabric::{Fabric, SendFault, StartFault};
 pub use history::{Begun, History, HistoryMark};
 pub use laws::runs_are_safe;
 pub use moves::{Move, Moves};
+pub use offers::{GivenMove, Offer};
 pub use order::{Order, PullCause, Refusal, Told, What};
 pub use schedules::{ListMoves, SeedMoves};
 pub use seeds::Seeds;

@@ -1,7 +1,8 @@
 //! Schedules: what the network does next.
 
 ghost use Rattle.std.specs.Prelude.{◌≡◌, ◌++◌, ◌∷◌, [], ◌<◌, ◌≤◌, ℕ, List, OnOk};
-ghost use Rattle.world_model.specs.declared.moves.Move.{Move};
+ghost use Rattle.world_model.specs.declared.offers.GivenMove.{GivenMove};
+ghost use Rattle.world_model.specs.Offers.{given_move};
 
 use blob_id::Memory;
 
@@ -33,8 +34,8 @@ pub enum Move {
 
 /// A schedule.
 pub trait Moves {
-    /// The moves given so far, in order.
-    ghost given: { Self → List Move };
+    /// The moves given so far, in order, each with what it was picked from.
+    ghost given: { Self → List GivenMove };
 
     /// How many more moves there is room to keep.
     ghost room: { Self → ℕ };
@@ -63,7 +64,7 @@ pub trait Moves {
         requires room { 0 < room self.old }
         requires nodes { 1 ≤ nodes }
         requires partitions { 1 ≤ partitions }
-        ensures given { given self.new ≡ given self.old ++ result ∷ [] }
+        ensures given { given self.new ≡ given self.old ++ given_move nodes partitions requests replies result ∷ [] }
         ensures seeds { seeds self.new ≡ seeds self.old }
         ensures same { same self.old self.new };
 

@@ -1,10 +1,12 @@
 //! The plain schedule, listed moves, and the seeded schedule.
 
 ghost use Rattle.std.specs.Prelude.{◌≡◌, ℕ, ◌+◌, ◌-◌, ◌*◌, ◌/◌, ◌%◌, ◌^◌, ◌<◌, ◌≤◌, ◌==◌, Bool, true, List, [], ◌∷◌, ◌++◌, length, drop, cond, OnOk, vec_len, vec_capacity, min, max};
+ghost use Rattle.world_model.specs.Offers.{given_move};
 ghost use Rattle.world_model.specs.Schedule.{Schedule, listed_move, move_of, next_state, number_in, picked, plain_move, seeded_move};
 ghost use Rattle.world_model.specs.Seeds.{seeds_of};
 
 use crate::moves::{Move, Moves};
+use crate::offers::{GivenMove, Offer};
 use crate::seeds::Seeds;
 use blob_id::Memory;
 use std::alloc::Global;
@@ -23,12 +25,12 @@ fn plain_move(requests: u32, replies: u32) -> Move
     }
 }
 
-/// Adds a move, for which there is room.
-fn add(given: &mut Vec<Move>, chosen: Move)
+/// Keeps a move and what it was picked from, for which there is room.
+fn keep(given: &mut Vec<GivenMove>, offer: Offer, chosen: Move)
     requires room { vec_len given.old < vec_capacity given.old }
-    ensures { given.new.items ≡ given.old.items ++ chosen ∷ [] }
+    ensures { given.new.items ≡ given.old.items ++ record { offer = offer; chosen = chosen } ∷ [] }
 {
-    let _ = given.push(chosen);
+    let _ = given.push(GivenMove { offer, chosen });
 }
 
 /// The listed moves, and then those of the plain schedule.
@@ -36,7 +38,7 @@ fn add(given: &mut Vec<Move>, chosen: Move)
 pub struct ListMoves {
     pub list: Vec<Move>,
     pub next: usize,
-    pub given: Vec<Move>,
+    pub given: Vec<GivenMove>,
     pub seeds: Seeds,
 }
 
@@ -86,9 +88,9 @@ impl Moves for ListMoves {
         Ok(())
     }
 
-    fn pick(&mut self, _nodes: u32, _partitions: u32, requests: u32, replies: u32) -> Move
+    fn pick(&mut self, nodes: u32, partitions: u32, requests: u32, replies: u32) -> Move
         requires room { 0 < vec_capacity self.old.given - vec_len self.old.given }
-        ensures given { self.new.given.items ≡ self.old.given.items ++ result ∷ [] }
+        ensures given { self.new.given.items ≡ self.old.given.items ++ given_move nodes partitions requests replies result ∷ [] }
         ensures seeds { seeds_of self.new.seeds ≡ seeds_of self.old.seeds }
         ensures same { Unit {0} }
         ensures picked { result ≡ listed_move self.old.list.items self.old.next requests replies }
@@ -102,7 +104,13 @@ impl Moves for ListMoves {
         } else {
             plain_move(requests, replies)
         };
-        add(&mut self.given, chosen);
+        let offer = Offer {
+            nodes,
+            partitions,
+            requests,
+            replies,
+        };
+        keep(&mut self.given, offer, chosen);
         chosen
     }
 
@@ -116,12 +124,13 @@ impl Moves for ListMoves {
 pub struct SeedMoves {
     plain: bool,
     state: u64,
-    given: Vec<Move>,
+    given: Vec<GivenMove>,
     seeds: Seeds,
 }
 
 impl Model for SeedMoves {
     ghost use Rattle.std.specs.Prelude.{◌-◌, vec_len, vec_capacity};
+    ghost use Rattle.world_model.specs.Offers.{given_move};
     ghost use Rattle.world_model.specs.Schedule.{Schedule};
     ghost use Rattle.world_model.specs.Seeds.{seeds_of};
 
@@ -219,7 +228,7 @@ impl Moves for SeedMoves {
         requires room { 0 < self.old.room }
         requires nodes { 1 ≤ nodes }
         requires partitions { 1 ≤ partitions }
-        ensures given { self.new.given ≡ self.old.given ++ result ∷ [] }
+        ensures given { self.new.given ≡ self.old.given ++ given_move nodes partitions requests replies result ∷ [] }
         ensures seeds { self.new.seeds ≡ self.old.seeds }
         ensures same { Unit {0} }
         ensures picked { result ≡ picked self.old nodes partitions requests replies }
@@ -235,7 +244,13 @@ impl Moves for SeedMoves {
             let place = (second / 8589934592) as u32;
             move_of(first / 8589934592 % 100, place, nodes, partitions)
         };
-        add(&mut self.given, chosen);
+        let offer = Offer {
+            nodes,
+            partitions,
+            requests,
+            replies,
+        };
+        keep(&mut self.given, offer, chosen);
         chosen
     }
 

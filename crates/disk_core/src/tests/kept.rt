@@ -4,7 +4,8 @@ ghost use Rattle.std.specs.Prelude.{◌≡◌, ◌+◌, ◌≤◌, IsSome, IsTru
 ghost use Rattle.outside.specs.Causes.{Rose};
 
 use crate::{
-    BayFault, Bays, Disk, FileBays, FuseBays, FuseDisk, MemBays, MemDisk, Pick, write_synced,
+    BayFault, Bays, Disk, FileBays, FuseBays, FuseDisk, MemBays, MemDisk, Pick, PlacedFuse,
+    write_synced,
 };
 use outside::Failed;
 use std::alloc::Global;
@@ -105,14 +106,27 @@ fn the_write_that_blows_the_fuse_reaches_the_disk_below(rt: HostRuntime) -> Resu
     Ok(())
 }
 
-// Opens the disk of node 1 and partition 2 through the trait.
-fn open_one<B: Bays>(rt: &impl Abort, bays: &mut B, folder: &str) -> B::Disk
-    ensures out { B.tells → IsSome (B.out bays.new 1 2) }
+// Opens the disk of a place through the trait.
+fn open_at<B: Bays>(
+    rt: &impl Abort,
+    bays: &mut B,
+    folder: &str,
+    node: u32,
+    partition: u32,
+) -> B::Disk
+    ensures out { B.tells → IsSome (B.out bays.new node partition) }
 {
-    match bays.open(folder, 1, 2, 100_000) {
+    match bays.open(folder, node, partition, 100_000) {
         Ok(disk) => disk,
         Err(fault) => panic!(rt; "no disk: {fault}"),
     }
+}
+
+// Opens the disk of node 1 and partition 2.
+fn open_one<B: Bays>(rt: &impl Abort, bays: &mut B, folder: &str) -> B::Disk
+    ensures out { B.tells → IsSome (B.out bays.new 1 2) }
+{
+    open_at(rt, bays, folder, 1, 2)
 }
 
 // A new disk is given some bytes and put home, and is found again with them. Another size is refused. `last` is the
@@ -175,11 +189,47 @@ fn a_disk_in_memory_is_kept(rt: HostRuntime) -> Result<(), Fail> {
     Ok(())
 }
 
+// A fuse of a place.
+fn fuse(node: u32, partition: u32, passes: u64, pick: Pick) -> PlacedFuse {
+    PlacedFuse {
+        node,
+        partition,
+        passes,
+        pick,
+    }
+}
+
+#[test]
+fn each_disk_fails_as_its_own_fuse_says(rt: HostRuntime) -> Result<(), Fail> {
+    let alloc = rt.alloc();
+    let below = MemBays::new(alloc, Pick::Drop, Vec::new(alloc));
+    let fuses = vec![in alloc; fuse(1, 2, 1, Pick::Keep), fuse(2, 1, 0, Pick::Fill(9))]?;
+    let mut bays = FuseBays::new(below, fuses);
+    // the disk, whether its write and its sync fail, and what a stop leaves of the write
+    let rows = [
+        (1, 2, Ok(()), Err(Failed), [1, 0, 0, 0]),
+        (2, 1, Err(Failed), Err(Failed), [9, 0, 0, 0]),
+        (2, 2, Ok(()), Ok(()), [1, 0, 0, 0]),
+    ];
+    for (node, partition, written, synced, left) in rows {
+        let mut disk = open_at(&rt, &mut bays, "folder", node, partition);
+        assert_write(&rt, &mut disk, 0, &[1], written);
+        assert_eq!(rt; disk.sync(), synced);
+        disk.stopped();
+        assert_bytes(&rt, &mut disk, 0, left);
+        bays.give_back(node, partition, disk);
+        let mut again = open_at(&rt, &mut bays, "folder", node, partition);
+        assert_synced(&rt, &mut again, 0, &[2], Ok(()));
+        bays.give_back(node, partition, again);
+    }
+    Ok(())
+}
+
 #[test]
 fn a_disk_with_a_fuse_is_kept(rt: HostRuntime) -> Result<(), Fail> {
     let alloc = rt.alloc();
     let below = MemBays::new(alloc, Pick::Drop, vec![in alloc; 6]?);
-    let mut bays = FuseBays::new(below, 1, 2, 3);
+    let mut bays = FuseBays::new(below, vec![in alloc; fuse(1, 2, 3, Pick::Drop)]?);
     assert_kept(&rt, &mut bays, "folder", Err(Failed));
     assert_counted(&rt, &mut bays, "folder");
     Ok(())

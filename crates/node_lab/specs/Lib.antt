@@ -1,0 +1,9 @@
+pub mod Replicas
+pub mod Faults
+pub mod Places
+pub mod Slots
+pub mod Nodes
+pub mod Refusals
+pub mod Calls
+pub mod RunPlaces
+pub mod Openings

@@ -1,0 +1,16 @@
+pub mod TagLemmas
+pub mod DigitLemmas
+pub mod ChoiceLemmas
+pub mod PlaceLemmas
+pub mod WordLemmas
+pub mod PartLemmas
+pub mod ReadLemmas
+pub mod LineLemmas
+pub mod PieceLemmas
+pub mod JoinLemmas
+pub mod OutcomePartLemmas
+pub mod OutcomeLemmas
+pub mod CommandLemmas
+pub mod RefusalLemmas
+pub mod PartRefusalLemmas
+pub mod LineRefusalLemmas

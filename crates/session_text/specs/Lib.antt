@@ -1,0 +1,10 @@
+pub mod Tags
+pub mod Texts
+pub mod Names
+pub mod Holders
+pub mod Commands
+pub mod Spelling
+pub mod Reading
+pub mod Outcomes
+pub mod Pieces
+pub mod Lines
